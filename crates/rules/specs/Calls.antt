@@ -1,0 +1,116 @@
+-- "WHAT COMES BACK" of document 01: the calls that fill a lent slice. Each gives an answer, and what the slice holds then.
+use mathlib.Core.Bool.{Bool, true, false, cond}
+use mathlib.Core.List.{List, [], _∷_, _++_}
+use mathlib.Core.Path.{_≡_}
+use Prim.Native.Nat.{ℕ, _-_, _*_}
+use lib.Dec.{eqb, leb}
+use lib.IntN.{ℤ, pos, negℤ}
+use lib.ListN.{length, drop}
+use Rattle.rules.specs.declared.Answer.{Answer}
+use Rattle.rules.specs.Numbers.{count}
+use Rattle.rules.specs.Factors.{factors}
+use Rattle.rules.specs.Stages.{Rule, Stage, Ran, done, beyond, runForward, runInverse, runAllowance}
+use Rattle.rules.specs.Shapes.{lineStages, jointStages}
+use Rattle.rules.specs.Recipes.{packed, numbersOf, leftOf}
+use Rattle.rules.specs.Answers.{accepted, counted, refused, _or-else_, checked, pairChecked}
+
+pub record Reply (A : Type 0) : Type 0 where
+  pub answer : Answer
+  pub memory : List A
+
+-- what a contract says of an answer and of the lent slice when the call returns
+abbrev pub Gives : {A : Type 0} → Answer → List A → Reply A → Type 0
+Gives answer memory reply = (answer ≡ reply .answer) × (memory ≡ reply .memory)
+
+-- "Refused calls leave lent memory untouched"
+unfoldable pub reply : {A : Type 0} → Answer → List A → List A → Reply A
+reply a new old = record { answer = a; memory = cond (eqb (a .number) 0) new old }
+
+-- ---- calls that can answer 15
+-- 15, "the count needed"
+abbrev pub fitting : ℕ → ℕ → Answer
+fitting n room = cond (leb n room) (counted n) (refused 15 0 n)
+
+-- "leaves the room after its output untouched"
+abbrev pub over : {A : Type 0} → List A → List A → List A
+over new room = new ++ drop (length new) room
+
+-- 14: "number cut, too long or not shortest", at "its first byte"
+abbrev pub spelling : List ℕ → Answer
+spelling b = cond (eqb (length (leftOf b)) 0) accepted (refused 14 0 (length b - length (leftOf b)))
+
+-- "The reader answers 14 for the whole byte string first, then 1 to 9, then 15"
+unfoldable pub read : List ℕ → List ℤ → Reply ℤ
+read b room =
+    reply (spelling b or-else checked (numbersOf b) or-else fitting (length (numbersOf b)) (length room)) (over (numbersOf b) room) room
+
+-- "the writer 1 to 9, then 15"
+unfoldable pub write : List ℤ → List ℕ → Reply ℕ
+write s room = reply (checked s or-else fitting (length (packed s)) (length room)) (over (packed s) room) room
+
+-- "BUILT-IN RECIPE": "It is a table of 45 numbers"
+abbrev neg : ℕ → ℤ
+neg n = negℤ (pos n)
+
+abbrev pub builtIn : List ℤ
+builtIn =
+    pos 4 ∷ pos 5
+    ∷ pos 1 ∷ pos 3 ∷ pos 2 ∷ pos 0 ∷ pos 1
+    ∷ pos 2 ∷ pos 1 ∷ pos 1 ∷ pos 1 ∷ pos 1 ∷ pos 1612 ∷ pos 0 ∷ neg 4096 ∷ neg 815 ∷ pos 3281 ∷ pos 0
+    ∷ pos 3 ∷ neg 1 ∷ pos 1 ∷ pos 1 ∷ pos 1 ∷ pos 6238 ∷ pos 2048 ∷ neg 2676 ∷ pos 3101 ∷ pos 2484 ∷ pos 0
+    ∷ pos 2 ∷ pos 1 ∷ pos 1 ∷ pos 1 ∷ pos 1 ∷ neg 2106 ∷ pos 2106 ∷ neg 4096 ∷ neg 872 ∷ pos 3281 ∷ pos 0
+    ∷ pos 1 ∷ pos 3 ∷ pos 2 ∷ pos 1 ∷ pos 0
+    ∷ []
+
+-- "A call writes it into a lent slice, or answers 15"
+unfoldable pub writeBuiltIn : List ℤ → Reply ℤ
+writeBuiltIn room = reply (fitting (length builtIn) (length room)) (over builtIn room) room
+
+-- ---- runs: what they take from their sheets
+pub record Plan : Type 0 where
+  -- the sheets' own answer, 1 to 9 and 12
+  pub sheets : Answer
+  -- how many numbers a block has
+  pub size : ℕ
+  pub stages : List Stage
+
+unfoldable pub line : List ℤ → Plan
+line s = record { sheets = checked s; size = count s 0; stages = lineStages (count s 0) (factors s) }
+
+unfoldable pub joint : List ℤ → List ℤ → Plan
+joint c r = record {
+  sheets = pairChecked c r;
+  size = count c 0 * count r 0;
+  stages = jointStages (count c 0) (count r 0) (factors c) (factors r);
+}
+
+-- 10: "slice length is not n, or n1·n2"; "Side is 1 .. for the output"
+abbrev pub sized : ℕ → ℕ → List ℤ → Answer
+sized side n v = cond (eqb (length v) n) accepted (refused 10 side 0)
+
+-- 11 and 13, at the first stage
+unfoldable pub ranAnswer : ℕ → Ran → Answer
+ranAnswer number (done v) = accepted
+ranAnswer number (beyond s) = refused number 0 s
+
+unfoldable pub ranMemory : Ran → List ℤ → List ℤ
+ranMemory (done v) y = v
+ranMemory (beyond s) y = y
+
+-- "12, 10 for the input, 10 for the output, then 11"; the output is written at the end
+unfoldable pub runReply : Plan → Ran → List ℤ → List ℤ → Reply ℤ
+runReply p ran x y = reply (p .sheets or-else sized 0 (p .size) x or-else sized 1 (p .size) y or-else ranAnswer 11 ran) (ranMemory ran y) y
+
+module _ (rule : Rule) (p : Plan) where
+  -- x lent as the input, y as the output
+  unfoldable pub forwardCall : List ℤ → List ℤ → Reply ℤ
+  forwardCall x y = runReply p (runForward rule (p .size) (p .stages) x) x y
+
+  unfoldable pub inverseCall : List ℤ → List ℤ → Reply ℤ
+  inverseCall x y = runReply p (runInverse rule (p .size) (p .stages) x) x y
+
+  -- an allowance call lends only an output
+  unfoldable pub allowanceCall : List ℤ → Reply ℤ
+  allowanceCall y =
+      let ran = runAllowance rule (p .size) (p .stages) in
+      reply (p .sheets or-else sized 1 (p .size) y or-else ranAnswer 13 ran) (ranMemory ran y) y

@@ -1,0 +1,123 @@
+-- "FIGURES TO PROVE" of document 01: cases a to h as one table, checked once against the definitions by computation.
+use mathlib.Core.List.{List, [], _∷_, map}
+use mathlib.Core.Path.{_≡_, refl}
+use Prim.Native.Nat.{ℕ}
+use lib.IntN.{ℤ, pos, negℤ}
+use Rattle.whole.specs.Sum.{sum}
+use Rattle.rules.specs.declared.Answer.{Answer}
+use Rattle.rules.specs.declared.Kind.{Kind}
+use Rattle.rules.specs.declared.Kind.the-variants.{Permutation, Lower, Upper, Single}
+use Rattle.rules.specs.Sheets.{go, times, among, faultOf, one, kindOf, triangle, weights, body, factor, closed, head, reading}
+use Rattle.rules.specs.Factors.{Factor, numbers, signsAt, above, entriesBefore, factorAt, factorsFrom, factors, hasEntry, matrix}
+use Rattle.rules.specs.Stages.{nearest, R, share, ceiling, fill, inside, off, weighed, multiples, putBack, forward, recover, undo, allow, later, run, runForward, runInverse, runAllowance}
+use Rattle.rules.specs.Shapes.{those, byTurn, turn, order, inRow, stageOf, lineStage, lineStages, jointSource, jointSign, jointWeight, jointShared, jointStage, jointStages}
+use Rattle.rules.specs.Recipes.{code, value, spell, group, groups, packed, unpack, left, written}
+use Rattle.rules.specs.Answers.{accepted, counted, refused, _or-else_, further, first, matching, pairChecked}
+use Rattle.rules.specs.Calls.{Reply, reply, read, write, builtIn, writeBuiltIn, line, joint, ranAnswer, ranMemory, runReply, forwardCall, inverseCall, allowanceCall}
+
+-- what a case shows, and what document 01 prints for it
+pub data Shown : Type 0 where
+  numbers-of : Reply ℤ → Shown
+  bytes-of : Reply ℕ → Shown
+  bytes : List ℕ → Shown
+
+pub record Figure : Type 0 where
+  pub found : Shown
+  pub printed : Shown
+
+abbrev gives : Reply ℤ → Answer → List ℤ → Figure
+gives r a v = record { found = numbers-of r; printed = numbers-of (record { answer = a; memory = v }) }
+
+abbrev spells : Reply ℕ → Answer → List ℕ → Figure
+spells r a l = record { found = bytes-of r; printed = bytes-of (record { answer = a; memory = l }) }
+
+-- numbers as document 01 writes them
+abbrev neg : ℕ → ℤ
+neg n = negℤ (pos n)
+
+abbrev two : ℤ → ℤ → List ℤ
+two x y = x ∷ y ∷ []
+
+abbrev three : ℤ → ℤ → ℤ → List ℤ
+three x y z = x ∷ y ∷ z ∷ []
+
+abbrev four : ℤ → ℤ → ℤ → ℤ → List ℤ
+four x y z t = x ∷ y ∷ z ∷ t ∷ []
+
+-- what the lent slice holds before a call
+abbrev found₂ : List ℤ
+found₂ = two (pos 9) (neg 9)
+
+abbrev a : List ℤ
+a = pos 2 ∷ pos 1 ∷ pos 2 ∷ pos 1 ∷ pos 1 ∷ pos 2048 ∷ []
+
+abbrev a-bytes : List ℕ
+a-bytes = 0x04 ∷ 0x02 ∷ 0x04 ∷ 0x02 ∷ 0x02 ∷ 0x80 ∷ 0x20 ∷ []
+
+abbrev b : List ℤ
+b = pos 2 ∷ pos 2 ∷ pos 2 ∷ pos 1 ∷ pos 1 ∷ pos 2048 ∷ pos 3 ∷ pos 1 ∷ neg 1 ∷ neg 6144 ∷ []
+
+abbrev c : List ℤ
+c = pos 3 ∷ pos 1 ∷ pos 1 ∷ pos 2 ∷ pos 0 ∷ pos 1 ∷ []
+
+abbrev d : List ℤ
+d = pos 3 ∷ pos 1 ∷ pos 4 ∷ pos 1 ∷ pos 1 ∷ neg 1 ∷ pos 1 ∷ pos 4096 ∷ pos 1024 ∷ []
+
+abbrev e : List ℤ
+e = pos 2 ∷ pos 1 ∷ pos 2 ∷ pos 1 ∷ pos 1 ∷ pos 4096 ∷ []
+
+pub table : List Figure
+table =
+    -- a: "(3,5) to (3,7); (-2,5) to (-2,4); (-1,5) to (-1,5); bytes 04 02 04 02 02 80 20; allowance 0, 2048"
+    gives (forwardCall nearest (line a) (two (pos 3) (pos 5)) found₂) accepted (two (pos 3) (pos 7))
+    ∷ gives (forwardCall nearest (line a) (two (neg 2) (pos 5)) found₂) accepted (two (neg 2) (pos 4))
+    ∷ gives (forwardCall nearest (line a) (two (neg 1) (pos 5)) found₂) accepted (two (neg 1) (pos 5))
+    ∷ spells (write a (1 ∷ 1 ∷ 1 ∷ 1 ∷ 1 ∷ 1 ∷ 1 ∷ 1 ∷ [])) (counted 7) (0x04 ∷ 0x02 ∷ 0x04 ∷ 0x02 ∷ 0x02 ∷ 0x80 ∷ 0x20 ∷ 1 ∷ [])
+    ∷ gives (read a-bytes (pos 2 ∷ pos 1 ∷ pos 2 ∷ pos 9 ∷ pos 9 ∷ pos 9 ∷ [])) (counted 6) a
+    ∷ gives (read a-bytes found₂) (refused 15 0 6) found₂
+    ∷ gives (allowanceCall nearest (line a) found₂) accepted (two (pos 0) (pos 2048))
+    -- b: "(3,5) to (-7,-7), back to (3,5)", and the allowance that "Program" prints
+    ∷ gives (forwardCall nearest (line b) (two (pos 3) (pos 5)) found₂) accepted (two (neg 7) (neg 7))
+    ∷ gives (inverseCall nearest (line b) (two (neg 7) (neg 7)) found₂) accepted (two (pos 3) (pos 5))
+    ∷ gives (allowanceCall nearest (line b) found₂) accepted (two (pos 5120) (pos 2048))
+    -- c: "(10,20,30) to (30,10,20)"
+    ∷ gives (forwardCall nearest (line c) (three (pos 10) (pos 20) (pos 30)) (three (pos 0) (pos 0) (pos 0))) accepted (three (pos 30) (pos 10) (pos 20))
+    -- d: "(4,7,3) to (4,-2,3); allowance 0, 2048, 0"
+    ∷ gives (forwardCall nearest (line d) (three (pos 4) (pos 7) (pos 3)) (three (pos 0) (pos 0) (pos 0))) accepted (three (pos 4) (neg 2) (pos 3))
+    ∷ gives (allowanceCall nearest (line d) (three (pos 0) (pos 0) (pos 0))) accepted (three (pos 0) (pos 2048) (pos 0))
+    -- e: "(16777215,0) accepted; (16777215,1) refused 11 at stage 1; (16777216,0) at stage 0; allowance 0, 0"
+    ∷ gives (forwardCall nearest (line e) (two (pos 16777215) (pos 0)) found₂) accepted (two (pos 16777215) (pos 16777215))
+    ∷ gives (forwardCall nearest (line e) (two (pos 16777215) (pos 1)) found₂) (refused 11 0 1) found₂
+    ∷ gives (forwardCall nearest (line e) (two (pos 16777216) (pos 0)) found₂) (refused 11 0 0) found₂
+    ∷ gives (allowanceCall nearest (line e) found₂) accepted (two (pos 0) (pos 0))
+    -- f: "sheet a on both sides: rows (1,1),(0,0) to (1,2),(1,1)", and back
+    ∷ gives (forwardCall nearest (joint a a) (four (pos 1) (pos 1) (pos 0) (pos 0)) (four (pos 0) (pos 0) (pos 0) (pos 0))) accepted (four (pos 1) (pos 2) (pos 1) (pos 1))
+    ∷ gives (inverseCall nearest (joint a a) (four (pos 1) (pos 2) (pos 1) (pos 1)) (four (pos 0) (pos 0) (pos 0) (pos 0))) accepted (four (pos 1) (pos 1) (pos 0) (pos 0))
+    -- g: "built-in: (100,0,0,0) to (50,50,50,50)", and back: from the top for kind 2, from the bottom for kind 3
+    ∷ gives (forwardCall nearest (line builtIn) (four (pos 100) (pos 0) (pos 0) (pos 0)) (four (pos 0) (pos 0) (pos 0) (pos 0))) accepted (four (pos 50) (pos 50) (pos 50) (pos 50))
+    ∷ gives (inverseCall nearest (line builtIn) (four (pos 50) (pos 50) (pos 50) (pos 50)) (four (pos 0) (pos 0) (pos 0) (pos 0))) accepted (four (pos 100) (pos 0) (pos 0) (pos 0))
+    ∷ gives (writeBuiltIn found₂) (refused 15 0 45) found₂
+    -- h: "entry 16384 is bytes 80 80 02; bytes 84 00 are refused 14"
+    ∷ record { found = bytes (written (pos 16384)); printed = bytes (0x80 ∷ 0x80 ∷ 0x02 ∷ []) }
+    ∷ gives (read (0x84 ∷ 0x00 ∷ []) found₂) (refused 14 0 0) found₂
+    ∷ []
+
+-- every case shows what document 01 prints
+pub figures : map (λ (f : Figure). f .found) table ≡ map (λ (f : Figure). f .printed) table
+unfolding table sum go times among faultOf one kindOf triangle weights body factor closed head reading numbers signsAt above entriesBefore factorAt factorsFrom factors hasEntry matrix R share ceiling fill inside off weighed multiples putBack forward recover undo allow later run runForward runInverse runAllowance those byTurn turn order inRow stageOf lineStage lineStages jointSource jointSign jointWeight jointShared jointStage jointStages code value spell group groups packed unpack left _or-else_ further first matching pairChecked reply read write writeBuiltIn line joint ranAnswer ranMemory runReply forwardCall inverseCall allowanceCall
+figures = refl
+
+-- the recovery orders of a rectangle of three by three, kind 4 with rows 1 and 2
+abbrev pub middle : ℕ → Kind → Factor
+middle r k = record { kind = k; place = λ i. i; row = r; sign = λ m. pos 1; entry = λ m k. pos 0 }
+
+abbrev pub orderOf : Kind → List ℕ
+orderOf k = order k 9 (jointShared 3 3 (middle 1 k) (middle 2 k))
+
+pub orders : map orderOf (Lower ∷ Upper ∷ Single ∷ []) ≡
+    (0 ∷ 1 ∷ 2 ∷ 3 ∷ 4 ∷ 5 ∷ 6 ∷ 7 ∷ 8 ∷ [])
+    ∷ (8 ∷ 7 ∷ 6 ∷ 5 ∷ 4 ∷ 3 ∷ 2 ∷ 1 ∷ 0 ∷ [])
+    ∷ (0 ∷ 1 ∷ 6 ∷ 7 ∷ 3 ∷ 4 ∷ 2 ∷ 8 ∷ 5 ∷ [])
+    ∷ []
+unfolding those byTurn turn order inRow jointShared
+orders = refl

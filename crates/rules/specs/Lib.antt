@@ -1,0 +1,10 @@
+pub mod Numbers
+pub mod Sheets
+pub mod Factors
+pub mod Stages
+pub mod Shapes
+pub mod Recipes
+pub mod Answers
+pub mod Calls
+pub mod Figures
+pub mod Laws

@@ -1,0 +1,136 @@
+-- "FACTOR RULES", "ALLOWANCE" and the exact product of document 01, over a stage: a factor of a line, or a pair of factors of a rectangle.
+-- N numbers go through a list of stages: N is n for a line, n1·n2 for a rectangle in reading order.
+use mathlib.Core.Bool.{Bool, true, false, cond}
+use mathlib.Core.List.{List, [], _∷_, reverse}
+use Prim.Native.Nat.{ℕ, zero, suc, _+_, _-_, _*_, _/_, _%_}
+use lib.Dec.{eqb, leb}
+use lib.IntN.{ℤ, pos, natAbs, _+ℤ_, _-ℤ_, _*ℤ_}
+use lib.ListN.{set, replicate}
+use lib.Signed.{shrZ}
+use Rattle.whole.specs.Sum.{sum}
+use Rattle.rules.specs.Numbers.{bound, mostAllowance, at}
+
+-- ---- the rounding
+-- document 01 has one rule, "nearest, halves upward"; `shrZ s m` is the floor of s / m, also below zero
+pub data Rule : Type 0 where
+  nearest : Rule
+
+-- "R(s) is the floor of (s + 2048)/4096", "R2(s) is the floor of (s + 8388608)/16777216": one function of the scale S
+unfoldable pub R : Rule → ℕ → ℤ → ℤ
+R nearest S s = shrZ (s +ℤ pos (S / 2)) S
+
+-- what one rounding adds to an allowance
+unfoldable pub share : Rule → ℕ
+share nearest = 2048
+
+-- the quotient s / S upward
+unfoldable pub ceiling : ℕ → ℤ → ℤ
+ceiling S s = shrZ (s +ℤ pos (S - 1)) S
+
+-- ---- lists by places
+-- v with its first n numbers f 0 .. f (n - 1)
+unfoldable pub fill : ℕ → (ℕ → ℤ) → List ℤ → List ℤ
+fill zero f v = v
+fill (suc n) f v = set (fill n f v) n (f n)
+
+-- every one of the first n numbers lies between -most and most
+unfoldable pub inside : ℕ → ℕ → List ℤ → Bool
+inside most zero v = true
+inside most (suc n) v = cond (leb (natAbs (at v n)) most) (inside most n v) false
+
+-- ---- a stage: a move, out(e) = in(source e), or a weighing, whose weights count in 1/scale; order is the recovery order
+pub data Stage : Type 0 where
+  move : (scale : ℕ) (source : ℕ → ℕ) → Stage
+  weigh : (scale : ℕ) (sign : ℕ → ℤ) (weight : ℕ → ℕ → ℤ) (order : List ℕ) → Stage
+
+unfoldable pub scale : Stage → ℕ
+scale (move S p) = S
+scale (weigh S d w o) = S
+
+-- the weights of element e, its own left out, and a sum with such weights
+unfoldable pub off : (ℕ → ℕ → ℤ) → ℕ → ℕ → ℤ
+off w e k = cond (eqb e k) (pos 0) (w e k)
+
+unfoldable pub weighed : ℕ → (ℕ → ℤ) → List ℤ → ℤ
+weighed N u v = sum N (λ k. u k *ℤ at v k)
+
+-- every one of the first n weights is a multiple of S
+unfoldable pub multiples : ℕ → ℕ → (ℕ → ℤ) → Bool
+multiples S zero u = true
+multiples S (suc n) u = cond (eqb (natAbs (u n) % S) 0) (multiples S n u) false
+
+-- "The inverse puts y(i) at p(i)", for each i below n
+unfoldable pub putBack : ℕ → (ℕ → ℕ) → List ℤ → List ℤ
+putBack zero p v = v
+putBack (suc i) p v = set (putBack i p v) (p i) (at v i)
+
+module _ (rule : Rule) (N : ℕ) where
+  -- "y(m) = d(m)·x(m) + R(sum of a(m,k)·x(k))", every element from the old list
+  unfoldable pub forward : Stage → List ℤ → List ℤ
+  forward (move S p) v = fill N (λ e. at v (p e)) v
+  forward (weigh S d w o) v = fill N (λ e. (d e *ℤ at v e) +ℤ R rule S (weighed N (off w e) v)) v
+
+  -- "x(m) = d(m)·(y(m) - R(same sum of recovered x))", along the recovery order, recovered numbers in place of spent ones
+  unfoldable pub recover : ℕ → (ℕ → ℤ) → (ℕ → ℕ → ℤ) → List ℕ → List ℤ → List ℤ
+  recover S d w [] v = v
+  recover S d w (e ∷ es) v = recover S d w es (set v e (d e *ℤ (at v e -ℤ R rule S (weighed N (off w e) v))))
+
+  unfoldable pub undo : Stage → List ℤ → List ℤ
+  undo (move S p) v = putBack N p v
+  undo (weigh S d w o) v = recover S d w o v
+
+  -- "a row gets b(m) + ceiling of (sum of |a(m,k)|·b(k) / 4096), plus 2048 if any entry of that row off the diagonal is no multiple of 4096"
+  unfoldable pub allow : Stage → List ℤ → List ℤ
+  allow (move S p) b = fill N (λ e. at b (p e)) b
+  allow (weigh S d w o) b =
+      fill N
+      (λ e.
+      (at b e +ℤ ceiling S (weighed N (λ k. pos (natAbs (off w e k))) b))
+      +ℤ cond (multiples S N (off w e)) (pos 0) (pos (share rule)))
+      b
+
+-- "scale every factor, permutations and signs too, without rounding"
+unfoldable pub exact : ℕ → Stage → List ℤ → List ℤ
+exact N (move S p) x = fill N (λ e. pos S *ℤ at x (p e)) x
+exact N (weigh S d w o) x = fill N (λ e. (pos S *ℤ (d e *ℤ at x e)) +ℤ weighed N (off w e) x) x
+
+-- ---- runs
+-- "Stage 0 is the input; stage s is the vector after s factors": the last list, or the first stage that is refused
+pub data Ran : Type 0 where
+  done : List ℤ → Ran
+  beyond : (stage : ℕ) → Ran
+
+-- a refusal n stages later
+unfoldable pub later : ℕ → Ran → Ran
+later n (done v) = done v
+later n (beyond s) = beyond (n + s)
+
+-- "A run is refused exactly if some stage has a number beyond the bound, at the first such stage"
+unfoldable pub run : (List ℤ → Bool) → (Stage → List ℤ → List ℤ) → List Stage → List ℤ → Ran
+run ok step [] v = cond (ok v) (done v) (beyond 0)
+run ok step (s ∷ ss) v = cond (ok v) (later 1 (run ok step ss (step s v))) (beyond 0)
+
+-- the same, nothing tested
+unfoldable pub through : (Stage → List ℤ → List ℤ) → List Stage → List ℤ → List ℤ
+through step [] v = v
+through step (s ∷ ss) v = through step ss (step s v)
+
+module _ (rule : Rule) (N : ℕ) (ss : List Stage) where
+  unfoldable pub runForward : List ℤ → Ran
+  runForward x = run (inside bound N) (forward rule N) ss x
+
+  -- the last factor is undone first
+  unfoldable pub runInverse : List ℤ → Ran
+  runInverse y = run (inside bound N) (undo rule N) (reverse ss) y
+
+  -- "All allowances start at 0"; refused at the first stage with one above the limit
+  unfoldable pub runAllowance : Ran
+  runAllowance = run (inside mostAllowance N) (allow rule N) ss (replicate N (pos 0))
+
+-- "giving E at scale D"
+unfoldable pub exactProduct : ℕ → List Stage → List ℤ → List ℤ
+exactProduct N ss x = through (exact N) ss x
+
+unfoldable pub exactScale : List Stage → ℕ
+exactScale [] = 1
+exactScale (s ∷ ss) = scale s * exactScale ss

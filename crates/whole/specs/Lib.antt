@@ -1,0 +1,5 @@
+pub mod Diff
+pub mod Laws
+pub mod Floor
+pub mod Machine
+pub mod Sum
