@@ -1,1 +1,15 @@
 pub mod Good
+pub mod Rounding
+pub mod Places
+pub mod Lists
+pub mod Back
+pub mod Runs
+pub mod Near
+pub mod Order
+pub mod Pigeon
+pub mod Rect
+pub mod Kinds
+pub mod Rows
+pub mod Cuts
+pub mod Pad
+pub mod Bounds

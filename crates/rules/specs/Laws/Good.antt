@@ -1,21 +1,18 @@
 -- WHAT THE LAWS ASK: of a stage that can be undone, of a factor from which such a stage is made, and of the rounding.
 use mathlib.Core.Bool.{Bool, true, false, cond}
 use mathlib.Core.List.{List, [], _∷_}
-use mathlib.Core.Logic.{_≢_, _⊎_}
+use mathlib.Core.Logic.{_≢_}
 use mathlib.Core.Path.{_≡_}
 use Prim.Native.Nat.{ℕ, _*_, _≤_, _<_}
 use lib.Dec.{eqb}
-use lib.IntN.{ℤ, pos, negsuc, natAbs, _-ℤ_, _*ℤ_}
+use lib.IntN.{ℤ, pos, natAbs, _-ℤ_, _*ℤ_}
 use Rattle.whole.specs.Diff.{Within}
+use Rattle.whole.specs.Laws.{Sign}
 use Rattle.rules.specs.declared.Kind.{Kind}
 use Rattle.rules.specs.declared.Kind.the-variants.{Permutation}
 use Rattle.rules.specs.Numbers.{mostEntry, unit}
 use Rattle.rules.specs.Factors.{Factor, hasEntry}
 use Rattle.rules.specs.Stages.{Stage, move, weigh}
-
--- 1 or -1
-abbrev pub Sign : ℤ → Type 0
-Sign z = (z ≡ pos 1) ⊎ (z ≡ negsuc 0)
 
 -- p takes the numbers below N to themselves, each once: `from e` is the one that it takes to e
 pub record Permutes (N : ℕ) (p : ℕ → ℕ) : Type 0 where

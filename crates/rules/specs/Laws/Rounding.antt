@@ -1,0 +1,8 @@
+-- Every rounding rule obeys the law of a rounding, by which alone the laws of the allowances use it.
+use Rattle.whole.specs.Floor.{nearest-near, nearest-whole}
+use Rattle.rules.specs.Stages.{Rule, nearest, R, share}
+use Rattle.rules.specs.Laws.Good.{Rounding}
+
+pub rounding : (rule : Rule) → Rounding (R rule) (share rule)
+unfolding R share
+rounding nearest = record { near = nearest-near; whole = nearest-whole }
