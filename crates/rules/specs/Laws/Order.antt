@@ -136,7 +136,7 @@ those-one test (suc n) e l h q = go (λ m. those-one test n e m h (λ k b. q k (
     go ih (no i) = rw (ih (omega arith), q n (omega arith) i)
 
 -- a turn that one element has
-turn-one : (N t : ℕ) (turn : ℕ → ℕ) (e : ℕ) → e < N → turn e ≡ t → ((k : ℕ) → k < N → turn k ≡ t → k ≡ e) →
+pub turn-one : (N t : ℕ) (turn : ℕ → ℕ) (e : ℕ) → e < N → turn e ≡ t → ((k : ℕ) → k < N → turn k ≡ t → k ≡ e) →
     byTurn N (suc t) turn ≡ byTurn N t turn ++ (e ∷ [])
 unfolding byTurn
 turn-one N t turn e l h q =

@@ -1,0 +1,12 @@
+pub mod Tests
+pub mod Readers
+pub mod Accepted
+pub mod First
+pub mod Low
+pub mod Prefix
+pub mod Sound
+pub mod Cut
+pub mod Plans
+pub mod Promises
+pub mod CutLaw
+pub mod Returned

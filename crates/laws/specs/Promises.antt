@@ -1,0 +1,136 @@
+-- WHAT A USER IS PROMISED of the calls of document 01: demands 2 and 3 over any plan, then for a line sheet and for a pair with no
+-- hypothesis but that the calls are accepted; refused calls leave memory alone; a reply leaves one answer. Assumes nothing.
+use mathlib.Core.List.{List}
+use mathlib.Core.Path.{_≡_, sym, ap, _∙_}
+use Prim.Native.Nat.{ℕ, _*_, _^_, _<_}
+use native.Mathlib.Omega.{arith}
+use borrow.Author.Tests.{ne-eqb}
+use lib.IntN.{ℤ, pos, natAbs, _-ℤ_, _*ℤ_}
+use lib.ListN.{length}
+use lib.Signed.{_≤ℤ_}
+use Rattle.rules.specs.declared.Answer.{Answer}
+use Rattle.rules.specs.Numbers.{unit, unit², at, count}
+use Rattle.rules.specs.Factors.{factors}
+use Rattle.rules.specs.Stages.{Rule, exactProduct, exactScale}
+use Rattle.rules.specs.Answers.{accepted, pairChecked}
+use Rattle.rules.specs.Calls.{Reply, Gives, reply, read, write, writeBuiltIn, Plan, line, joint, runReply, forwardCall, inverseCall, allowanceCall}
+use Rattle.rules.specs.Laws.Runs.{there-and-back, back-and-there}
+use Rattle.rules.specs.Laws.Near as Near
+use Rattle.rules.specs.Laws.Cuts.{lines-scale, joints-scale}
+use Rattle.laws.specs.Accepted.{pair-read}
+use Rattle.laws.specs.Sound.{factors-length, counts-agree}
+use Rattle.laws.specs.Plans.{GoodPlan, line-plan, joint-plan, forward-length, inverse-length, forward-gives, inverse-gives, allowance-gives}
+
+-- a call, with some slice lent, is accepted and leaves c in that slice
+pub record Fills (call : List ℤ → Reply ℤ) (c : List ℤ) : Type 0 where
+  pub lent : List ℤ
+  pub gives : Gives accepted c (call lent)
+
+-- "giving E at scale D"
+abbrev pub E : Plan → List ℤ → List ℤ
+E p x = exactProduct (p .size) (p .stages) x
+
+abbrev pub D : Plan → ℕ
+D p = exactScale (p .stages)
+
+pub record Promises (rule : Rule) (p : Plan) : Type 0 where
+  -- demand 2: coefficients that a forward call gave come back as the block, whatever the lent slice z had
+  pub back-again :
+      (x z : List ℤ) {c : List ℤ} → length z ≡ p .size → Fills (forwardCall rule p x) c → Gives accepted x (inverseCall rule p c z)
+  -- and a block that an inverse call gave comes back as the coefficients
+  pub there-again :
+      (y z : List ℤ) {x : List ℤ} → length z ≡ p .size → Fills (inverseCall rule p y) x → Gives accepted y (forwardCall rule p x z)
+  -- demand 3: "4096·|D·y - E| ≤ D·b"
+  pub within-allowance :
+      (x : List ℤ) {y b : List ℤ} → Fills (allowanceCall rule p) b → Fills (forwardCall rule p x) y → (e : ℕ) → e < p .size →
+      pos (unit * natAbs ((pos (D p) *ℤ at y e) -ℤ at (E p x) e)) ≤ℤ (pos (D p) *ℤ at b e)
+  -- "4096·|F(x) - F(z) - F(x-z)| ≤ 3·b", where u is x - z element by element
+  pub difference :
+      (x z u : List ℤ) {fx fz fu b : List ℤ} → ((e : ℕ) → e < p .size → at u e ≡ at x e -ℤ at z e) →
+      Fills (allowanceCall rule p) b → Fills (forwardCall rule p x) fx → Fills (forwardCall rule p z) fz → Fills (forwardCall rule p u) fu →
+      (e : ℕ) → e < p .size → pos (unit * natAbs ((at fx e -ℤ at fz e) -ℤ at fu e)) ≤ℤ (pos 3 *ℤ at b e)
+
+module _ (rule : Rule) {p : Plan} (plan : GoodPlan p) where
+  pub promised : Promises rule p
+  promised = record {
+    back-again = λ x z l f.
+        let a = forward-gives rule p x (f .lent) _ .0 (f .gives) in
+        let h = there-and-back rule (plan .good (a .1 .sheets)) x _ (omega arith) (a .1 .gives) in
+        let n = forward-length rule (p .size) (p .stages) x _ (a .1 .gives) in
+        inverse-gives rule p _ z x .1 (n ∙ a .0, record { sheets = a .1 .sheets; output = l; gives = h });
+    there-again = λ y z l f.
+        let a = inverse-gives rule p y (f .lent) _ .0 (f .gives) in
+        let h = back-and-there rule (plan .good (a .1 .sheets)) y _ (omega arith) (a .1 .gives) in
+        let n = inverse-length rule (p .size) (p .stages) y _ (a .1 .gives) in
+        forward-gives rule p _ z y .1 (n ∙ a .0, record { sheets = a .1 .sheets; output = l; gives = h });
+    within-allowance = λ x g f e i.
+        let a = forward-gives rule p x (f .lent) _ .0 (f .gives) in
+        let b = allowance-gives rule p (g .lent) _ .0 (g .gives) in
+        Near.within-allowance rule (plan .good (b .sheets)) _ (b .gives) x _ (omega arith) (a .1 .gives) e i;
+    difference = λ x z u less g fx fz fu e i.
+        let b = allowance-gives rule p (g .lent) _ .0 (g .gives) in
+        let ax = forward-gives rule p x (fx .lent) _ .0 (fx .gives) in
+        let az = forward-gives rule p z (fz .lent) _ .0 (fz .gives) in
+        let au = forward-gives rule p u (fu .lent) _ .0 (fu .gives) in
+        Near.difference rule (plan .good (b .sheets)) _ (b .gives)
+        (record { long-x = omega arith; long-z = omega arith; long-u = omega arith; less = less }) _ _ _
+        (ax .1 .gives) (az .1 .gives) (au .1 .gives) e i;
+  }
+
+-- a line sheet, and a pair of sheets: no other hypothesis
+pub line-promises : (rule : Rule) (s : List ℤ) → Promises rule (line s)
+line-promises rule s = promised rule (line-plan s)
+
+pub joint-promises : (rule : Rule) (c r : List ℤ) → Promises rule (joint c r)
+joint-promises rule c r = promised rule (joint-plan c r)
+
+-- "D = 4096^K or 4096^(2K)"
+pub line-scale : (s : List ℤ) → D (line s) ≡ unit ^ count s 1
+unfolding line factors
+line-scale s = lines-scale (count s 0) (factors s) ∙ ap (λ (k : ℕ). unit ^ k) (factors-length s (count s 0) (count s 1) 2)
+
+pub joint-scale : (c r : List ℤ) → pairChecked c r .number ≡ 0 → D (joint c r) ≡ unit² ^ count c 1
+unfolding joint factors
+joint-scale c r h =
+    let m = factors-length c (count c 0) (count c 1) 2 in
+    let n = factors-length r (count r 0) (count r 1) 2 in
+    let e = counts-agree c r (pair-read c r h .2) in
+    joints-scale (count c 0) (count r 0) (factors c) (factors r) (m ∙ sym (n ∙ e)) ∙ ap (λ (k : ℕ). unit² ^ k) m
+
+-- ---- "Refused calls leave lent memory untouched"
+-- a reply that, if it is refused, has the memory as lent
+pub record Keeps {A : Type 0} (q : Reply A) (lent : List A) : Type 0 where
+  pub keeps : (q .answer .number ≡ 0 → ⊥) → q .memory ≡ lent
+
+pub reply-keeps : {A : Type 0} (a : Answer) (new old : List A) → Keeps (reply a new old) old
+unfolding reply
+reply-keeps a new old = record { keeps = λ h. rw (ne-eqb (a .number) 0 h) }
+
+module _ (rule : Rule) (p : Plan) where
+  pub forward-keeps : (x y : List ℤ) → Keeps (forwardCall rule p x y) y
+  unfolding forwardCall runReply
+  forward-keeps x y = reply-keeps _ _ y
+
+  pub inverse-keeps : (x y : List ℤ) → Keeps (inverseCall rule p x y) y
+  unfolding inverseCall runReply
+  inverse-keeps x y = reply-keeps _ _ y
+
+  pub allowance-keeps : (y : List ℤ) → Keeps (allowanceCall rule p y) y
+  unfolding allowanceCall
+  allowance-keeps y = reply-keeps _ _ y
+
+pub read-keeps : (b : List ℕ) (room : List ℤ) → Keeps (read b room) room
+unfolding read
+read-keeps b room = reply-keeps _ _ room
+
+pub write-keeps : (s : List ℤ) (room : List ℕ) → Keeps (write s room) room
+unfolding write
+write-keeps s room = reply-keeps _ _ room
+
+pub built-in-keeps : (room : List ℤ) → Keeps (writeBuiltIn room) room
+unfolding writeBuiltIn
+built-in-keeps room = reply-keeps _ _ room
+
+-- ---- "the statement about its result leaves one answer and one state of lent memory"
+pub one-answer : {A : Type 0} {a b : Answer} {m n : List A} (q : Reply A) → Gives a m q → Gives b n q → (a ≡ b) × (m ≡ n)
+one-answer q g h = (g .0 ∙ sym (h .0), g .1 ∙ sym (h .1))
