@@ -1,0 +1,117 @@
+// Reading a recipe: the numbers of a byte string, one after another, checked as a sheet.
+ghost use mathlib.Core.Path.{_≡_};
+ghost use Prim.Native.Nat.{_+_, _≤_, _<_, min};
+ghost use lib.ListN.{length, set, take, drop};
+ghost use Rattle.rules.specs.Recipes.{value, number, numbersOf, leftOf};
+ghost use Rattle.rules.specs.Answers.{_or-else_, checked};
+ghost use Rattle.rules.specs.Calls.{Gives, over, spelling, fitting, read};
+ghost use Rattle.recipe.specs.Reading.{Ends};
+use crate::answers::fitting;
+use crate::answers::or_else;
+use crate::number::read_number;
+use crate::number::value_of;
+use rules::Answer;
+use rules::Sheet;
+
+// These decide about any sheet: one number more than the longest sheet has is a fault already.
+const ENOUGH: usize = Sheet::LONGEST + 1;
+
+// Where the numbers of some bytes end, and how many they are.
+pub struct End {
+    pub place: usize,
+    pub count: usize,
+}
+
+// Reads number after number until none stands at the place: that is the end, or the fault of 14.
+pub fn scan(bytes: &[u8]) -> End
+    ensures { λ r. ⌜ Ends (now (bytes .entry)) (r .place) (r .count) ⌝ }
+{
+    let n = bytes.len();
+    let mut i = 0;
+    for k in 0..n {
+        let r = read_number(bytes, i);
+        if r.size == 0 {
+            return End { place: i, count: k };
+        }
+        i += r.size;
+    }
+    End { place: i, count: n }
+}
+
+// Puts the number at i into out[k]; answers where the next one starts.
+fn read_into(bytes: &[u8], i: usize, out: &mut [i32], k: usize) -> usize
+    requires { ⌜ (i ≤ length (now bytes)) × (k < length (now out)) ⌝ }
+    ensures next { λ r. ⌜ r ≡ i + number (drop i (now (bytes .entry))) .size ⌝ }
+    ensures list { λ _. ⌜ now (out .exit) ≡ set (now (out .entry)) k (value (number (drop i (now (bytes .entry))) .code)) ⌝ }
+{
+    let r = read_number(bytes, i);
+    out[k] = value_of(r.code);
+    i + r.size
+}
+
+// Puts the first m numbers into the front of out.
+pub fn decode(bytes: &[u8], out: &mut [i32], m: usize)
+    requires { ⌜ (m ≤ length (numbersOf (now bytes))) × (m ≤ length (now out)) ⌝ }
+    ensures { λ _. ⌜ now (out .exit) ≡ over (take m (numbersOf (now (bytes .entry)))) (now (out .entry)) ⌝ }
+{
+    let mut i = 0;
+    for k in 0..m {
+        i = read_into(bytes, i, out, k);
+    }
+}
+
+// The smaller of two numbers.
+fn smaller(a: usize, b: usize) -> usize
+    ensures { λ r. ⌜ r ≡ min a b ⌝ }
+{
+    if a <= b { a } else { b }
+}
+
+// Checks the numbers of some bytes as a sheet, in a copy of those that decide. So no bytes are too many to be answered.
+fn check_numbers(bytes: &[u8], count: usize) -> Answer
+    requires { ⌜ count ≡ length (numbersOf (now bytes)) ⌝ }
+    ensures { λ r. ⌜ r ≡ checked (numbersOf (now (bytes .entry))) ⌝ }
+{
+    let mut copy = [0i32; ENOUGH];
+    let m = smaller(count, ENOUGH);
+    decode(bytes, &mut copy, m);
+    sheet::check(&copy[..m])
+}
+
+// 14, if the numbers end before the bytes do.
+fn spelling(bytes: &[u8], place: usize) -> Answer
+    requires { ⌜ place + length (leftOf (now bytes)) ≡ length (now bytes) ⌝ }
+    ensures { λ r. ⌜ r ≡ spelling (now (bytes .entry)) ⌝ }
+{
+    if place < bytes.len() {
+        return Answer::refused(14, 0, place as u64);
+    }
+    Answer::accepted()
+}
+
+// The reader's answer: 14 for the whole byte string first, then 1 to 9, then 15.
+fn read_answer(bytes: &[u8], end: End, room: usize) -> Answer
+    requires { ⌜ Ends (now bytes) (end .place) (end .count) ⌝ }
+    ensures { λ r. ⌜
+        r
+        ≡ spelling (now (bytes .entry)) or-else checked (numbersOf (now (bytes .entry))) or-else fitting (end .count) room
+        ⌝ }
+{
+    let spelt = spelling(bytes, end.place);
+    let checked = check_numbers(bytes, end.count);
+    let fits = fitting(end.count, room);
+    or_else(spelt, or_else(checked, fits))
+}
+
+// Reads a recipe into the front of out.
+pub fn read(bytes: &[u8], out: &mut [i32]) -> Answer
+    ensures { λ r. ⌜ Gives r (now (out .exit)) (read (now (bytes .entry)) (now (out .entry))) ⌝ }
+{
+    let end = scan(bytes);
+    let answer = read_answer(bytes, end, out.len());
+    if answer.number != 0 {
+        return answer;
+    }
+    decode(bytes, out, end.count);
+    answer
+}
