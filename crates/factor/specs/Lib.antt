@@ -1,0 +1,10 @@
+pub mod Spots
+pub mod Rows
+pub mod Reach
+pub mod Lies
+pub mod Walks
+pub mod Turns
+pub mod Magnitudes
+pub mod Wholes
+pub mod Loops
+pub mod Answers

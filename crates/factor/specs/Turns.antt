@@ -1,0 +1,113 @@
+-- THE ORDER IN WHICH THE CODE UNDOES A FACTOR: each element once, and none looks at a later one.
+use mathlib.Core.Bool.{Bool, true, false, cond}
+use mathlib.Core.Logic.{_≢_}
+use mathlib.Core.Path.{_≡_, refl, sym, ap, _∙_}
+use Prim.Native.Nat.{ℕ, zero, suc, _+_, _-_, _≤_, _<_}
+use native.Mathlib.Decide.{decLt}
+use native.Mathlib.Omega.{arith}
+use borrow.Author.Tests.{ne-eqb, lt-ltb, le-ltb}
+use lib.Dec.{eqb, ltb}
+use lib.IntN.{ℤ, pos}
+use Rattle.rules.specs.declared.Kind.{Kind}
+use Rattle.rules.specs.declared.Kind.the-variants.{Permutation, Lower, Upper, Single}
+use Rattle.rules.specs.Factors.{Factor, hasEntry, matrix}
+use Rattle.rules.specs.Laws.Good.{Permutes}
+use Rattle.factor.specs.Spots.{placeOf}
+
+same : (n : ℕ) → Permutes n (λ t. t)
+same n = record { from = λ e. e; below = λ e l. l; from-below = λ e l. l; to-from = λ e l. refl; from-to = λ e l. refl }
+
+-- round from the row after r: places below n - 1 - r are those after r, the others those up to r
+module _ (n r : ℕ) (b : r < n) where
+  abbrev when : ℕ → ℕ
+  when e = cond (ltb r e) (e - suc r) (e + (n - suc r))
+
+  abbrev spot : ℕ → ℕ
+  spot t = cond (ltb t (n - suc r)) (suc r + t) (t - (n - suc r))
+
+  spot-early : (t : ℕ) → t < n - suc r → spot t ≡ suc r + t
+  spot-early t l = rw (lt-ltb t (n - suc r) l)
+
+  spot-late : (t : ℕ) → n - suc r ≤ t → spot t ≡ t - (n - suc r)
+  spot-late t l = rw (le-ltb t (n - suc r) l)
+
+  when-after : (e : ℕ) → r < e → when e ≡ e - suc r
+  when-after e l = rw (lt-ltb r e l)
+
+  when-before : (e : ℕ) → e ≤ r → when e ≡ e + (n - suc r)
+  when-before e l = rw (le-ltb r e l)
+
+  round : Permutes n spot
+  round = record {
+    from = when;
+    below = λ t l. spot-below t l (decLt t (n - suc r));
+    from-below = λ e l. when-below e l (decLt r e);
+    to-from = λ e l. to e l (decLt r e);
+    from-to = λ t l. back t l (decLt t (n - suc r));
+  }
+    where
+      spot-below : (t : ℕ) → t < n → Dec (t < n - suc r) → spot t < n
+      spot-below t l (yes q) = omega (arith, spot-early t q)
+      spot-below t l (no q) = omega (arith, spot-late t (omega arith))
+
+      when-below : (e : ℕ) → e < n → Dec (r < e) → when e < n
+      when-below e l (yes q) = omega (arith, when-after e q)
+      when-below e l (no q) = omega (arith, when-before e (omega arith))
+
+      to : (e : ℕ) → e < n → Dec (r < e) → spot (when e) ≡ e
+      to e l (yes q) = let w = when-after e q in ap spot w ∙ spot-early (e - suc r) (omega arith) ∙ (omega arith)
+      to e l (no q) = let w = when-before e (omega arith) in ap spot w ∙ spot-late (e + (n - suc r)) (omega arith) ∙ (omega arith)
+
+      back : (t : ℕ) → t < n → Dec (t < n - suc r) → when (spot t) ≡ t
+      back t l (yes q) = let w = spot-early t q in ap when w ∙ when-after (suc r + t) (omega arith) ∙ (omega arith)
+      back t l (no q) = let w = spot-late t (omega arith) in ap when w ∙ when-before (t - (n - suc r)) (omega arith) ∙ (omega arith)
+
+  -- only the last element is r
+  not-yet : (t : ℕ) → suc t < n → spot t ≢ r
+  not-yet t l = go (decLt t (n - suc r))
+    where
+      go : Dec (t < n - suc r) → spot t ≢ r
+      go (yes q) e = omega (arith, spot-early t q)
+      go (no q) e = omega (arith, spot-late t (omega arith))
+
+pub places-permute : (kind : Kind) (n r : ℕ) → r < n → Permutes n (placeOf kind n r)
+unfolding placeOf
+places-permute Permutation n r b = same n
+places-permute Lower n r b = same n
+places-permute Upper n r b = record {
+  from = λ e. n - suc e;
+  below = λ e l. omega arith;
+  from-below = λ e l. omega arith;
+  to-from = λ e l. omega arith;
+  from-to = λ e l. omega arith;
+}
+places-permute Single n r b = round n r b
+
+entry-blind : (kind : Kind) (n r t u : ℕ) → r < n → t < u → u < n → hasEntry kind r (placeOf kind n r t) (placeOf kind n r u) ≡ false
+unfolding hasEntry placeOf
+entry-blind Permutation n r t u b l k = refl
+entry-blind Lower n r t u b l k = le-ltb u t (omega arith)
+entry-blind Upper n r t u b l k = le-ltb (n - suc t) (n - suc u) (omega arith)
+entry-blind Single n r t u b l k = ne-eqb _ r (not-yet n r b t (omega arith))
+
+-- only kind 4 asks for its row
+entry-row : (kind : Kind) (a b m k : ℕ) → (kind ≡ Single → a ≡ b) → hasEntry kind a m k ≡ hasEntry kind b m k
+unfolding hasEntry
+entry-row Permutation a b m k q = refl
+entry-row Lower a b m k q = refl
+entry-row Upper a b m k q = refl
+entry-row Single a b m k q = rw (q refl)
+
+-- no weight looks at a later element
+pub later-blind :
+    (f : Factor) (kind : Kind) (n r t u : ℕ) → f .kind ≡ kind → r < n → (kind ≡ Single → f .row ≡ r) → t < u → u < n →
+    matrix f (placeOf kind n r t) (placeOf kind n r u) ≡ pos 0
+unfolding matrix
+later-blind f kind n r t u e b q l k =
+    rw (ne-eqb _ _ differ, e, entry-row kind (f .row) r (placeOf kind n r t) (placeOf kind n r u) q, entry-blind kind n r t u b l k)
+  where
+    p : Permutes n (placeOf kind n r)
+    p = places-permute kind n r b
+
+    differ : placeOf kind n r t ≢ placeOf kind n r u
+    differ z = omega (arith, sym (p .from-to t (omega arith)) ∙ ap (p .from) z ∙ p .from-to u k)

@@ -1,0 +1,24 @@
+// 10: the lengths of the lent slices.
+ghost use mathlib.Core.Path.{_≡_};
+ghost use Rattle.factor.specs.Answers.{lengthsOf, lengthOf};
+use rules::Answer;
+
+// The output alone, of an allowance.
+pub fn check_length(size: usize, y: usize) -> Answer
+    ensures { λ r. ⌜ r ≡ lengthOf size y ⌝ }
+{
+    if y != size {
+        return Answer::refused(10, 1, 0);
+    }
+    Answer::accepted()
+}
+
+// The input, then the output.
+pub fn check_lengths(size: usize, x: usize, y: usize) -> Answer
+    ensures { λ r. ⌜ r ≡ lengthsOf size x y ⌝ }
+{
+    if x != size {
+        return Answer::refused(10, 0, 0);
+    }
+    check_length(size, y)
+}

@@ -1,0 +1,50 @@
+// One element of a stage: the sum rounded, the sign, the bound. In 64 bits; each `requires` says that nothing wraps.
+ghost use mathlib.Core.Path.{_≡_};
+ghost use lib.Dec.{T, leb};
+ghost use lib.IntN.{ℤ, pos, natAbs, _+ℤ_, _-ℤ_, _*ℤ_};
+ghost use lib.Signed.{nonNeg, shrZ};
+ghost use mir.Syntax.{w64};
+ghost use mir.Val.{SFits};
+
+// "R(s) is the floor of (s + 2048)/4096": a shift to the right is a floor, also below zero, so -2048 gives 0 and -2049 gives -1.
+pub fn round_line(s: i64) -> i64
+    requires { ⌜ SFits w64 (s +ℤ pos 2048) × SFits w64 (shrZ (s +ℤ pos 2048) 4096) ⌝ }
+    ensures { λ r. ⌜ r ≡ shrZ (s +ℤ pos 2048) 4096 ⌝ }
+{
+    (s + 2048) >> 12
+}
+
+// The quotient s / 4096 upward, for an allowance.
+pub fn raise_line(s: i64) -> i64
+    requires { ⌜ SFits w64 (s +ℤ pos 4095) × SFits w64 (shrZ (s +ℤ pos 4095) 4096) ⌝ }
+    ensures { λ r. ⌜ r ≡ shrZ (s +ℤ pos 4095) 4096 ⌝ }
+{
+    (s + 4095) >> 12
+}
+
+// d·x + q: an element applied. A sign flips the value, not the rounding.
+pub fn applied(d: i32, x: i32, q: i64) -> i64
+    requires { ⌜ SFits w64 d × SFits w64 x × SFits w64 (d *ℤ x) × SFits w64 ((d *ℤ x) +ℤ q) ⌝ }
+    ensures { λ r. ⌜ r ≡ (d *ℤ x) +ℤ q ⌝ }
+{
+    (d as i64) * (x as i64) + q
+}
+
+// d·(y - q): an element undone.
+pub fn undone(d: i32, y: i32, q: i64) -> i64
+    requires { ⌜ SFits w64 d × SFits w64 y × SFits w64 (y -ℤ q) × SFits w64 (d *ℤ (y -ℤ q)) ⌝ }
+    ensures { λ r. ⌜ r ≡ d *ℤ (y -ℤ q) ⌝ }
+{
+    (d as i64) * ((y as i64) - q)
+}
+
+// Whether a number lies between -most and most.
+pub fn is_within(z: i64, most: i32) -> bool
+    requires { ⌜ T (nonNeg most) ⌝ }
+    ensures { λ r. ⌜ r ≡ leb (natAbs z) (natAbs most) ⌝ }
+{
+    if z < -(most as i64) {
+        return false;
+    }
+    z <= most as i64
+}

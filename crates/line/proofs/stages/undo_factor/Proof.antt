@@ -1,0 +1,60 @@
+-- A permutation and a factor with weights are each the document's stage (`unpermute-is`, `unweigh-is`).
+use mathlib.Core.Path.{_≡_, _∙_}
+use native.Mathlib.Omega.{arith}
+use lib.ListN.{length}
+use Rattle.factor.specs.Spots.{spotBy, spotAt}
+use Rattle.factor.specs.Reach.{numbers-put}
+use Rattle.factor.specs.Lies.{lies, moves, kind-yes, kind-no, row-inside}
+use Rattle.line.specs.Links.{moved, unpermute-is, unweigh-is}
+use borrow.Author.Needs.{needs}
+use Rattle.line.proofs.stages.undo_factor.Statement.{statement}
+use Rattle.line.proofs.stages.undo_factor.Tie as tie
+
+len : (s : tie.Start) → length (s .args .y) ≡ 16
+len s = search needs
+
+spot-at-requires : tie.Need-spot-at-requires
+spot-at-requires c κs = search needs
+
+is-move-requires : tie.Need-is-move-requires
+is-move-requires c κs = search needs
+
+unpermute-requires : tie.Need-unpermute-requires
+unpermute-requires c κs =
+    let a = c .before .before in
+    let s = a .before in
+    rw (a .spot-at .ensures) (moves (s .pre .1) (s .pre .2) (kind-yes (s .pre .2) (a .spot-at .ensures) (c .before .is-move .ensures) (c .if1 .taken)))
+
+returns : tie.Need-returns
+unfolding spotAt spotBy
+returns c =
+    let a = c .before .before .before in
+    let s = a .before in
+    let q = kind-yes (s .pre .2) (a .spot-at .ensures) (c .before .before .is-move .ensures) (c .before .if1 .taken) in
+    rw (← (unpermute-is _ _ _ q (s .args .y))) (moved (s .args .n) (s .args .y) (c .unpermute .ensures ∙ rw (a .spot-at .ensures)) (numbers-put (s .args .n) _ (s .pre .3)))
+
+unweigh-requires : tie.Need-unweigh-requires
+unfolding spotAt spotBy
+unweigh-requires c κs =
+    let a = c .before .before in
+    let s = a .before in
+    rw (a .spot-at .ensures) (lies (s .pre .1) (s .pre .2) (kind-no (s .pre .2) (a .spot-at .ensures) (c .before .is-move .ensures) (c .if1 .left)), row-inside (s .pre .0) (s .pre .2), s .pre .3)
+
+returns-2 : tie.Need-returns-2
+unfolding spotAt spotBy
+returns-2 c =
+    let a = c .before .before .before in
+    let s = a .before in
+    let q = kind-no (s .pre .2) (a .spot-at .ensures) (c .before .before .is-move .ensures) (c .before .if1 .left) in
+    (c .unweigh .ensures .0 ∙ rw (a .spot-at .ensures, unweigh-is _ _ _ (s .pre .2) q (s .args .y) (let o = s .pre .1 in omega (arith, len s)) (row-inside (s .pre .0) (s .pre .2))), c .unweigh .ensures .1)
+
+pub undo-factor-spec : {M : Type 1} → statement M
+undo-factor-spec =
+    tie.close
+    (tie.spec
+    spot-at-requires
+    is-move-requires
+    unpermute-requires
+    returns
+    unweigh-requires
+    returns-2)

@@ -1,0 +1,69 @@
+-- ALL FACTORS OF A LINE: the stages one by one, forward and back, as the loops of the code meet them.
+use mathlib.Core.Bool.{Bool, true, false, cond}
+use mathlib.Core.List.{List, [], _∷_, _++_, reverse, reverse-append}
+use mathlib.Core.Path.{_≡_, refl, sym, ap, _∙_}
+use Prim.Native.Nat.{ℕ, zero, suc, _+_, _-_, _≤_, _<_}
+use native.Mathlib.Nat.{sub-self}
+use native.Mathlib.Omega.{arith}
+use lib.IntN.{ℤ}
+use Rattle.rules.specs.Numbers.{count}
+use Rattle.rules.specs.Sheets.{kindOf}
+use Rattle.rules.specs.Factors.{Factor, numbers, factorAt, factorsFrom}
+use Rattle.rules.specs.Stages.{Stage, Ran, done, beyond, inside}
+use Rattle.rules.specs.Shapes.{lineStage, lineStages}
+use Rattle.rules.specs.Answers.{further, start}
+use Rattle.rules.specs.Laws.Cuts.{lines-append}
+use Rattle.laws.specs.Accepted.{further-next}
+use Rattle.laws.specs.Sound.{factors-split}
+use Rattle.factor.specs.Loops.{Listed}
+use Rattle.line.specs.declared.steps.Stepped.{Stepped}
+use Rattle.line.specs.declared.runs.Outcome.{Outcome}
+use Rattle.line.specs.Steps.{stepped}
+
+-- what a run gives, as the code holds it; a refused run holds the block that it was given
+unfoldable pub outcome : Ran → List ℤ → Outcome
+outcome (done v) x = record { ok = true; stage = 0; block = v }
+outcome (beyond s) x = record { ok = false; stage = s; block = x }
+
+-- ---- what a step told
+pub step-no : (B n : ℕ) (new old : List ℤ) {r : Stepped} → r ≡ stepped B n new old → r .ok ≡ false → inside B n new ≡ false
+step-no B n new old e h = sym (ap (λ (r : Stepped). r .ok) e) ∙ h
+
+pub step-yes : (B n : ℕ) (new old : List ℤ) {r : Stepped} → r ≡ stepped B n new old → r .ok ≡ true → r .block ≡ new
+step-yes B n new old e h =
+    ap (λ (r : Stepped). r .block) e ∙ ap (λ (b : Bool). cond b new old) (sym (ap (λ (r : Stepped). r .ok) e) ∙ h)
+
+-- the stage of factor f
+abbrev pub at-stage : List ℤ → ℕ → ℕ → Stage
+at-stage s n f = lineStage n (factorAt s n (further s n 2 f))
+
+module _ (s : List ℤ) (n K : ℕ) where
+  -- ---- forward: the stages from the t-th on
+  abbrev pub ahead : ℕ → List Stage
+  ahead t = lineStages n (factorsFrom s n (K - t) (further s n 2 t))
+
+  pub ahead-listed : Listed K (at-stage s n) ahead
+  unfolding lineStages factorsFrom further
+  ahead-listed = record {
+    next = λ t l. let e : K - t ≡ suc (K - (t + 1)) = omega arith in rw (e, further-next s n 2 t);
+    end = rw (sub-self K);
+  }
+
+  -- ---- back: the stages before the last t, the last of them first
+  abbrev pub behind : ℕ → List Stage
+  behind t = reverse (lineStages n (factorsFrom s n (K - t) 2))
+
+  pub behind-listed : Listed K (λ t. at-stage s n (K - suc t)) behind
+  behind-listed = record { next = λ t l. one-less t l; end = none-left }
+    where
+      none-left : behind K ≡ []
+      none-left = rw (sub-self K) (unfold factorsFrom in unfold lineStages in refl)
+
+      last : (m : ℕ) → lineStages n (factorsFrom s n (m + 1) 2) ≡ lineStages n (factorsFrom s n m 2) ++ (at-stage s n m ∷ [])
+      last m = ap (lineStages n) (factors-split s n m 1 2) ∙ lines-append n (factorsFrom s n m 2) (factorsFrom s n 1 (further s n 2 m)) ∙ (unfold factorsFrom in unfold lineStages in refl)
+
+      one-less : (t : ℕ) → t < K → behind t ≡ at-stage s n (K - suc t) ∷ behind (t + 1)
+      one-less t l =
+          let e : K - t ≡ (K - suc t) + 1 = omega arith in
+          let d : K - (t + 1) ≡ K - suc t = omega arith in
+          rw (e, d, last (K - suc t), reverse-append)

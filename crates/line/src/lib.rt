@@ -1,0 +1,85 @@
+// The line: forward, inverse and allowance runs of a block of n numbers over one sheet. The calls ask nothing of their callers:
+// whatever is lent is answered, and a refused call leaves the output as it was.
+ghost use mathlib.Core.Path.{_≡_};
+ghost use lib.ListN.{length};
+ghost use Rattle.rules.specs.Numbers.{count};
+ghost use Rattle.rules.specs.Stages.{nearest};
+ghost use Rattle.rules.specs.Answers.{_or-else_, checked};
+ghost use Rattle.rules.specs.Calls.{Gives, line, forwardCall, inverseCall, allowanceCall};
+ghost use Rattle.factor.specs.Answers.{lengthOf, lengthsOf};
+use block::finish;
+use block::load;
+use factor::answers::check_length;
+use factor::answers::check_lengths;
+use factor::bounds::is_inside;
+use rules::Answer;
+use runs::allow_all;
+use runs::apply_all;
+use runs::undo_all;
+use sheet::places::count_at;
+
+mod steps; // what a factor does to the elements
+mod stages; // one stage: the factor at a place of the sheet
+mod runs; // all stages of a sheet
+mod block; // the block between the lent slices and the runs
+
+// 1 to 9, then 10 for the input and for the output.
+fn check_run(s: &[i32], x: usize, y: usize) -> Answer
+    ensures { λ r. ⌜ r ≡ checked (now (s .entry)) or-else lengthsOf (count (now (s .entry)) 0) x y ⌝ }
+{
+    let a = sheet::check(s);
+    if a.number != 0 {
+        return a;
+    }
+    check_lengths(count_at(s, 0), x, y)
+}
+
+// 1 to 9, then 10 for the output alone.
+fn check_output(s: &[i32], y: usize) -> Answer
+    ensures { λ r. ⌜ r ≡ checked (now (s .entry)) or-else lengthOf (count (now (s .entry)) 0) y ⌝ }
+{
+    let a = sheet::check(s);
+    if a.number != 0 {
+        return a;
+    }
+    check_length(count_at(s, 0), y)
+}
+
+// Forward: x through the sheet's factors, first to last, into y.
+pub fn forward(s: &[i32], x: &[i32], y: &mut [i32]) -> Answer
+    ensures { λ r. ⌜ Gives r (now (y .exit)) (forwardCall nearest (line (now (s .entry))) (now (x .entry)) (now (y .entry))) ⌝ }
+{
+    let a = check_run(s, x.len(), y.len());
+    if a.number != 0 {
+        return a;
+    }
+    if !is_inside(x) {
+        return Answer::refused(11, 0, 0);
+    }
+    finish(apply_all(s, load(x)), 11, y)
+}
+
+// Inverse: x back through the sheet's factors, last to first, into y.
+pub fn inverse(s: &[i32], x: &[i32], y: &mut [i32]) -> Answer
+    ensures { λ r. ⌜ Gives r (now (y .exit)) (inverseCall nearest (line (now (s .entry))) (now (x .entry)) (now (y .entry))) ⌝ }
+{
+    let a = check_run(s, x.len(), y.len());
+    if a.number != 0 {
+        return a;
+    }
+    if !is_inside(x) {
+        return Answer::refused(11, 0, 0);
+    }
+    finish(undo_all(s, load(x)), 11, y)
+}
+
+// The allowances of the forward run's coefficients, into y.
+pub fn allowance(s: &[i32], y: &mut [i32]) -> Answer
+    ensures { λ r. ⌜ Gives r (now (y .exit)) (allowanceCall nearest (line (now (s .entry))) (now (y .entry))) ⌝ }
+{
+    let a = check_output(s, y.len());
+    if a.number != 0 {
+        return a;
+    }
+    finish(allow_all(s, [0i32; 16]), 13, y)
+}
