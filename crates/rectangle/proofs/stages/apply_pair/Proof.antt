@@ -1,0 +1,84 @@
+-- A pair of permutations and a pair of factors with weights are each the document's stage (`permute-is`, `weigh-is`).
+use mathlib.Core.Logic.{_≢_}
+use mathlib.Core.Path.{_≡_, _∙_, sym}
+use Rattle.rules.specs.declared.Kind.the-variants.{Permutation}
+use Rattle.rules.specs.Numbers.{count}
+use Rattle.rules.specs.Sheets.{kindOf}
+use Rattle.factor.specs.Spots.{spotBy, spotAt}
+use Rattle.factor.specs.Reach.{numbers-fill}
+use Rattle.factor.specs.Lies.{lies, moves, kind-yes, kind-no}
+use Rattle.rectangle.specs.Links.{moved, permute-is, weigh-is}
+use borrow.Author.Needs.{needs}
+use Rattle.rectangle.proofs.stages.apply_pair.Statement.{statement}
+use Rattle.rectangle.proofs.stages.apply_pair.Tie as tie
+use Rattle.rectangle.proofs.stages.apply_pair.Reads as own-reads
+use Rattle.rectangle.proofs.stages.apply_pair.Lts as lts
+use Rattle.factor.proofs.is_move.Reads as is-move-reads
+use Rattle.factor.proofs.spot_at.Reads as spot-at-reads
+use Rattle.rectangle.proofs.moves.permute.Reads as permute-reads
+use Rattle.rectangle.proofs.steps.weigh.Reads as weigh-reads
+
+-- src/stages.rt:27:9
+spot-at-requires : tie.Need-spot-at-requires
+spot-at-requires c κs = search needs
+
+-- src/stages.rt:28:9
+spot-at-requires-2 : tie.Need-spot-at-requires-2
+spot-at-requires-2 c κs = search needs
+
+-- src/stages.rt:29:8
+is-move-requires : tie.Need-is-move-requires
+is-move-requires c κs = search needs
+
+yes-kind : (c : tie.Then1) → kindOf (count (c .before .before .before .before .args .col .now) (c .before .before .before .before .args .i)) ≡ Permutation
+yes-kind c = kind-yes (c .before .before .before .before .pre .0 .column) (c .before .before .before .spot-at .ensures) (c .before .is-move .ensures) (c .if1 .taken)
+
+no-kind : (c : tie.Else1) → kindOf (count (c .before .before .before .before .args .col .now) (c .before .before .before .before .args .i)) ≢ Permutation
+no-kind c = kind-no (c .before .before .before .before .pre .0 .column) (c .before .before .before .spot-at .ensures) (c .before .is-move .ensures) (c .if1 .left)
+
+-- src/stages.rt:30:13
+permute-requires : tie.Need-permute-requires
+permute-requires c κs =
+    let s = c .before .before .before .before in
+    let p = s .pre .0 in
+    let q = yes-kind c in
+    rw (c .before .before .before .spot-at .ensures, c .before .before .spot-at2 .ensures) (moves (p .most1) (p .column) q, moves (p .most2) (p .row) (sym (p .match) ∙ q))
+
+-- src/stages.rt:31:9
+returns : tie.Need-returns
+unfolding spotAt spotBy
+returns c =
+    let s = c .before .before .before .before .before in
+    let q = yes-kind (c .before) in
+    rw (← (permute-is _ _ _ _ _ _ (s .pre .0 .match) q (s .args .x)))
+    (moved _ (s .args .x) (c .permute .ensures ∙ rw (c .before .before .before .before .spot-at .ensures, c .before .before .before .spot-at2 .ensures)) (numbers-fill _ _ (s .pre .1) (λ e. s .pre .1 .small _)))
+
+-- src/stages.rt:33:5
+weigh-requires : tie.Need-weigh-requires
+weigh-requires c κs =
+    let s = c .before .before .before .before in
+    let p = s .pre .0 in
+    let q = no-kind c in
+    rw (c .before .before .before .spot-at .ensures, c .before .before .spot-at2 .ensures)
+    (lies (p .most1) (p .column) q, lies (p .most2) (p .row) (λ e. q (p .match ∙ e)), s .pre .1)
+
+-- src/stages.rt:21:1
+returns-2 : tie.Need-returns-2
+unfolding spotAt spotBy
+returns-2 c =
+    let s = c .before .before .before .before .before in
+    let p = s .pre .0 in
+    let q = no-kind (c .before) in
+    (c .weigh .ensures .0 ∙ rw (c .before .before .before .before .spot-at .ensures, c .before .before .before .spot-at2 .ensures, weigh-is _ _ _ _ _ _ (p .column) (p .row) (p .match) q (p .most2) (s .args .x)), c .weigh .ensures .1)
+
+pub apply-pair-spec : {M : Type 1} → statement M
+apply-pair-spec =
+    tie.close
+    (tie.spec
+    spot-at-requires
+    spot-at-requires-2
+    is-move-requires
+    permute-requires
+    returns
+    weigh-requires
+    returns-2)

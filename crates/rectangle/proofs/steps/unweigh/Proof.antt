@@ -1,0 +1,129 @@
+-- The block is as the rows of s turns leave it, and all of it is in bound.
+use borrow.Author.Needs.{needs}
+use borrow.Author.Tests.{not-true, not-false}
+use mathlib.Core.List.{List}
+use mathlib.Core.Path.{_≡_, refl, ap, _∙_}
+use Prim.Native.Nat.{ℕ, _+_, _-_, _*_, _≤_, _<_}
+use native.Mathlib.Nat.{mul-le-mul}
+use native.Mathlib.Omega.{arith}
+use lib.IntN.{ℤ}
+use lib.ListN.{length}
+use Rattle.rules.specs.Numbers.{bound}
+use Rattle.factor.specs.Reach.{Numbers, numbers-inside}
+use Rattle.factor.specs.Walks.{walk, length-walk}
+use Rattle.rules.specs.Laws.Good.{Permutes}
+use Rattle.factor.specs.Spots.{placeOf}
+use Rattle.factor.specs.Turns.{places-permute}
+use Rattle.rectangle.specs.Elements.{backOf}
+use Rattle.rectangle.specs.Order.{pairPlace, pair-permutes, pair-row}
+use Rattle.rectangle.specs.Went.{inRow, row-stuck, row-on, no-row}
+use Rattle.rectangle.proofs.steps.unweigh.Statement.{statement}
+use Rattle.rectangle.proofs.steps.unweigh.Tie as tie
+use Rattle.rectangle.proofs.steps.unweigh.Reads as own-reads
+use Rattle.rectangle.proofs.steps.unweigh.Lts as lts
+use Rattle.factor.proofs.place_of.Reads as place-of-reads
+use Rattle.rectangle.proofs.rows.unweigh_row.Reads as unweigh-row-reads
+
+abbrev Inv-loop : tie.InvT-loop
+Inv-loop col fa row fb y n x₀ s₀ x s = (s ≤ n) × (x ≡ walk (backOf col fa row fb) (pairPlace fa fb) (s * fb .order) y) × Numbers bound x
+
+abbrev μ-loop : tie.MeasureT-loop
+μ-loop col fa row fb y n x₀ s₀ x s = n - s
+
+-- src/steps.rt:46:5
+loop-holds : tie.Need-loop-holds Inv-loop μ-loop
+loop-holds c = (omega arith, no-row _ _ _ _, c .pre .4)
+
+-- src/steps.rt:47:13
+place-of-requires : tie.Need-place-of-requires Inv-loop μ-loop
+place-of-requires c κs = (c .loop-test .taken, c .before .before .pre .2)
+
+abbrev W : tie.Start Inv-loop μ-loop → ℕ → List ℤ
+W s m = walk (backOf (s .args .col .now) (s .args .fa) (s .args .row .now) (s .args .fb)) (pairPlace (s .args .fa) (s .args .fb)) m (s .args .y)
+
+abbrev N : tie.Start Inv-loop μ-loop → ℕ
+N s = s .args .fa .order * s .args .fb .order
+
+permutes : (s : tie.Start Inv-loop μ-loop) → Permutes (N s) (pairPlace (s .args .fa) (s .args .fb))
+permutes s =
+    pair-permutes (s .args .fa .order) (s .args .fb .order)
+    (places-permute (s .args .fa .kind) (s .args .fa .order) (s .args .fa .row) (s .pre .2))
+    (places-permute (s .args .fb .kind) (s .args .fb .order) (s .args .fb .row) (s .pre .3))
+
+len : (s : tie.Start Inv-loop μ-loop) → length (s .args .y) ≡ 256
+len s = search needs
+
+room : (s : tie.Start Inv-loop μ-loop) → N s ≤ length (s .args .y)
+room s = omega (arith, mul-le-mul (s .pre .0 .order) (s .pre .1 .order), len s)
+
+-- the elements of the row of this turn
+abbrev Q : (c : tie.After-place-of Inv-loop μ-loop) → ℕ → ℕ
+Q c u = let s = c .before .before .before in inRow (s .args .fb .order) (c .place-of .result) (placeOf (s .args .fb .kind) (s .args .fb .order) (s .args .fb .row) u)
+
+turns : (c : tie.After-place-of Inv-loop μ-loop) (u : ℕ) → u < c .before .before .before .args .fb .order →
+    pairPlace (c .before .before .before .args .fa) (c .before .before .before .args .fb) (c .before .before .loop .s * c .before .before .before .args .fb .order + u) ≡ Q c u
+turns c u g = let s = c .before .before .before in pair-row (s .args .fa) (s .args .fb) (c .before .before .loop .s) u g ∙ rw (c .place-of .ensures)
+
+-- src/steps.rt:48:13
+unweigh-row-requires : tie.Need-unweigh-row-requires Inv-loop μ-loop
+unweigh-row-requires c κs =
+    let p = c .before in
+    let s = p .before .before .before in (
+      s .pre .0,
+      s .pre .1,
+      rw (p .place-of .ensures) (places-permute (s .args .fa .kind) (s .args .fa .order) (s .args .fa .row) (s .pre .2) .below (p .before .before .loop .s) (p .before .loop-test .taken)),
+      s .pre .3,
+      p .before .before .loop .inv .2,
+      ap length (p .before .before .loop .inv .1) ∙ length-walk _ _ (p .before .before .loop .s * s .args .fb .order) _ ∙ len s,
+    )
+
+-- src/steps.rt:49:13
+returns : tie.Need-returns Inv-loop μ-loop
+returns c =
+    let p = c .before .before .before in
+    let s = p .before .before .before in
+    let l = p .before .before .loop in
+    rw (row-stuck (permutes s) bound (backOf (s .args .col .now) (s .args .fa) (s .args .row .now) (s .args .fb)) (s .args .y) (room s) (s .args .fa .order) (s .args .fb .order) (l .s) (Q p) refl
+    (p .before .loop-test .taken) (turns p) (l .inv .1) (c .before .unweigh-row .ensures .stuck (not-true _ (c .if1 .taken))))
+    (refl, s .pre .4)
+
+-- src/steps.rt:46:9
+add-s : tie.Need-add-s Inv-loop μ-loop
+add-s c = omega arith
+
+-- src/steps.rt:46:5
+loop-less : tie.Need-loop-less Inv-loop μ-loop
+loop-less c = omega arith
+
+-- src/steps.rt:46:5
+loop-again : tie.Need-loop-again Inv-loop μ-loop
+loop-again c =
+    let p = c .before .before .before in
+    let s = p .before .before .before in
+    let l = p .before .before .loop in
+    let w = c .before .unweigh-row .ensures .through (not-false _ (c .if1 .left)) in
+    (omega arith, row-on (backOf (s .args .col .now) (s .args .fa) (s .args .row .now) (s .args .fb)) (pairPlace (s .args .fa) (s .args .fb)) (s .args .fb .order) (l .s) (Q p) (s .args .y) (turns p) (l .inv .1) (w .0), w .1)
+
+-- src/steps.rt:40:1
+returns-2 : tie.Need-returns-2 Inv-loop μ-loop
+returns-2 c =
+    let s = c .before .before in
+    let l = c .before .loop in
+    let e : l .s ≡ s .args .fa .order = omega arith in
+    let x : l .x ≡ W s (N s) = l .inv .1 ∙ ap (λ (k : ℕ). W s (k * s .args .fb .order)) e in
+    rw (← x, numbers-inside (N s) (l .inv .2)) (refl, l .inv .2)
+
+pub unweigh-spec : {M : Type 1} → statement M
+unweigh-spec =
+    tie.close
+    (tie.spec
+    Inv-loop
+    μ-loop
+    loop-holds
+    place-of-requires
+    unweigh-row-requires
+    returns
+    add-s
+    loop-less
+    loop-again
+    returns-2)

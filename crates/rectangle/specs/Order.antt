@@ -1,0 +1,48 @@
+-- THE ORDER IN WHICH A PAIR OF FACTORS IS UNDONE: the rows by the one factor's order, the columns of a row by the other's.
+use mathlib.Core.Logic.{_⊎_, inl, inr}
+use mathlib.Core.Path.{_≡_, ap}
+use Prim.Native.Nat.{ℕ, _+_, _-_, _*_, _/_, _%_, _<_}
+use native.Mathlib.Decide.{decLt}
+use native.Mathlib.Nat as NatL
+use native.Mathlib.Omega.{arith}
+use Rattle.rules.specs.Shapes.{order}
+use Rattle.rules.specs.Laws.Good.{Permutes}
+use Rattle.rules.specs.Laws.Rect.{row-below, col-below, place-below, row-of, col-of}
+use Rattle.factor.specs.declared.Spot.{Spot}
+use Rattle.factor.specs.Spots.{placeOf}
+
+pub pair-permutes : (n1 n2 : ℕ) {f g : ℕ → ℕ} → Permutes n1 f → Permutes n2 g → Permutes (n1 * n2) (λ e. f (e / n2) * n2 + g (e % n2))
+pair-permutes n1 n2 {f} {g} p q = record {
+  from = λ e. p .from (e / n2) * n2 + q .from (e % n2);
+  below = λ e l. place-below n1 n2 _ _ (p .below _ (row e l)) (q .below _ (col e l));
+  from-below = λ e l. place-below n1 n2 _ _ (p .from-below _ (row e l)) (q .from-below _ (col e l));
+  to-from = λ e l. back e f g _ _ (q .from-below _ (col e l)) (p .to-from _ (row e l)) (q .to-from _ (col e l));
+  from-to = λ e l. back e (p .from) (q .from) _ _ (q .below _ (col e l)) (p .from-to _ (row e l)) (q .from-to _ (col e l));
+}
+  where
+    row : (e : ℕ) → e < n1 * n2 → e / n2 < n1
+    row = row-below n1 n2
+
+    col : (e : ℕ) → e < n1 * n2 → e % n2 < n2
+    col = col-below n1 n2
+
+    back : (e : ℕ) (f g : ℕ → ℕ) (i j : ℕ) → j < n2 → f i ≡ e / n2 → g j ≡ e % n2 → f ((i * n2 + j) / n2) * n2 + g ((i * n2 + j) % n2) ≡ e
+    back e f g i j b h k = rw (row-of n1 n2 i j b, col-of n1 n2 i j b, h, k) (NatL.div-add-mod' e n2)
+
+abbrev pub pairPlace : Spot → Spot → ℕ → ℕ
+pairPlace f g t = placeOf (f .kind) (f .order) (f .row) (t / g .order) * g .order + placeOf (g .kind) (g .order) (g .row) (t % g .order)
+
+pub pair-row : (f g : Spot) (i j : ℕ) → j < g .order →
+    pairPlace f g (i * g .order + j) ≡ placeOf (f .kind) (f .order) (f .row) i * g .order + placeOf (g .kind) (g .order) (g .row) j
+pair-row f g i j l = rw (row-of 0 (g .order) i j l, col-of 0 (g .order) i j l)
+
+-- of two places one stands in an earlier row, or earlier in the same
+pub earlier : (n t u : ℕ) → t < u → 0 < n → (t / n < u / n) ⊎ ((t / n ≡ u / n) × (t % n < u % n))
+earlier n t u l b = go (decLt (t / n) (u / n)) (decLt (u / n) (t / n))
+  where
+    go : Dec (t / n < u / n) → Dec (u / n < t / n) → (t / n < u / n) ⊎ ((t / n ≡ u / n) × (t % n < u % n))
+    go (yes h) k = inl h
+    go (no h) (yes k) = absurd (omega (arith, NatL.mul-le-mul-right n k, NatL.div-add-mod' t n, NatL.div-add-mod' u n, NatL.mod-lt u b))
+    go (no h) (no k) =
+        let e : t / n ≡ u / n = omega arith in
+        inr (e, omega (arith, ap (λ (i : ℕ). i * n) e, NatL.div-add-mod' t n, NatL.div-add-mod' u n))

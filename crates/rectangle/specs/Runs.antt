@@ -1,0 +1,120 @@
+-- ALL PAIRS OF FACTORS: the stages one by one, forward and back, as the loops of the code meet them.
+use mathlib.Core.Bool.{Bool, true, false, cond}
+use mathlib.Core.List.{List, [], _∷_, _++_, reverse, reverse-append}
+use mathlib.Core.Path.{_≡_, refl, sym, ap, _∙_}
+use Prim.Native.Nat.{ℕ, suc, _+_, _-_, _*_, _<_}
+use native.Mathlib.Nat.{sub-self, sub-zero}
+use native.Mathlib.Omega.{arith}
+use lib.IntN.{ℤ}
+use Rattle.rules.specs.Numbers.{count}
+use Rattle.rules.specs.Sheets.{kindOf}
+use Rattle.rules.specs.Factors.{factorAt, factorsFrom, factors}
+use Rattle.rules.specs.Stages.{Stage, Ran, done, beyond, inside}
+use Rattle.rules.specs.Shapes.{jointStage, jointStages}
+use Rattle.rules.specs.Answers.{further, start, matching, pairChecked}
+use Rattle.rules.specs.Laws.Cuts.{joints-append}
+use Rattle.laws.specs.Accepted.{Accepted, accepted-order, further-next, pair-read}
+use Rattle.laws.specs.Sound.{factors-split, factors-length, counts-agree, kinds-agree}
+use Rattle.factor.specs.Loops.{Listed}
+use Rattle.rectangle.specs.declared.steps.Stepped.{Stepped}
+use Rattle.rectangle.specs.declared.runs.Outcome.{Outcome}
+use Rattle.rectangle.specs.Steps.{stepped}
+use Rattle.rectangle.specs.Links.{Paired}
+
+-- what a run gives, as the code holds it; a refused run holds the block that it was given
+unfoldable pub outcome : Ran → List ℤ → Outcome
+outcome (done v) x = record { ok = true; stage = 0; block = v }
+outcome (beyond s) x = record { ok = false; stage = s; block = x }
+
+-- ---- what a step told
+pub step-no : (B n : ℕ) (new old : List ℤ) {r : Stepped} → r ≡ stepped B n new old → r .ok ≡ false → inside B n new ≡ false
+step-no B n new old e h = sym (ap (λ (r : Stepped). r .ok) e) ∙ h
+
+pub step-yes : (B n : ℕ) (new old : List ℤ) {r : Stepped} → r ≡ stepped B n new old → r .ok ≡ true → r .block ≡ new
+step-yes B n new old e h =
+    ap (λ (r : Stepped). r .block) e ∙ ap (λ (b : Bool). cond b new old) (sym (ap (λ (r : Stepped). r .ok) e) ∙ h)
+
+-- ---- two checked sheets that match
+pub record Matched (c r : List ℤ) : Type 0 where
+  pub column : Accepted c
+  pub row : Accepted r
+  pub match : matching c r .number ≡ 0
+
+pub matched : (c r : List ℤ) → pairChecked c r .number ≡ 0 → Matched c r
+matched c r h = let p = pair-read c r h in record { column = p .0; row = p .1; match = p .2 }
+
+-- their factors number f
+pub paired : {c r : List ℤ} → Matched c r → (f : ℕ) → f < count c 1 → Paired c r (count c 0) (count r 0) (start c f) (start r f)
+paired {c} {r} m f l = record {
+  some1 = accepted-order (m .column) .least;
+  most1 = accepted-order (m .column) .most;
+  column = m .column .each f l;
+  some2 = accepted-order (m .row) .least;
+  most2 = accepted-order (m .row) .most;
+  row = m .row .each f (omega (arith, counts-agree c r (m .match)));
+  match = ap kindOf (kinds-agree c r (m .match) f l);
+}
+
+-- the numbers of a block
+abbrev pub sizeOf : List ℤ → List ℤ → ℕ
+sizeOf c r = count c 0 * count r 0
+
+abbrev pub stagesOf : List ℤ → List ℤ → List Stage
+stagesOf c r = jointStages (count c 0) (count r 0) (factors c) (factors r)
+
+module _ (c r : List ℤ) where
+  abbrev n1 : ℕ
+  n1 = count c 0
+
+  abbrev n2 : ℕ
+  n2 = count r 0
+
+  abbrev K : ℕ
+  K = count c 1
+
+  -- the stage of the factors number f
+  abbrev pub at-stage : ℕ → Stage
+  at-stage f = jointStage n1 n2 (factorAt c n1 (start c f)) (factorAt r n2 (start r f))
+
+  -- ---- forward: the stages from the t-th on
+  abbrev pub ahead : ℕ → List Stage
+  ahead t = jointStages n1 n2 (factorsFrom c n1 (K - t) (start c t)) (factorsFrom r n2 (K - t) (start r t))
+
+  pub ahead-listed : Listed (count c 1) at-stage ahead
+  unfolding jointStages factorsFrom further
+  ahead-listed = record {
+    next = λ t l. let e : K - t ≡ suc (K - (t + 1)) = omega arith in rw (e, further-next c n1 2 t, further-next r n2 2 t);
+    end = rw (sub-self K);
+  }
+
+  -- ---- back: the stages before the last t, the last of them first
+  abbrev pub behind : ℕ → List Stage
+  behind t = reverse (jointStages n1 n2 (factorsFrom c n1 (K - t) 2) (factorsFrom r n2 (K - t) 2))
+
+  pub behind-listed : Listed (count c 1) (λ t. at-stage (count c 1 - suc t)) behind
+  behind-listed = record { next = λ t l. one-less t l; end = none-left }
+    where
+      none-left : behind K ≡ []
+      none-left = rw (sub-self K) (unfold factorsFrom in unfold jointStages in refl)
+
+      last : (m : ℕ) → jointStages n1 n2 (factorsFrom c n1 (m + 1) 2) (factorsFrom r n2 (m + 1) 2) ≡ jointStages n1 n2 (factorsFrom c n1 m 2) (factorsFrom r n2 m 2) ++ (at-stage m ∷ [])
+      last m =
+          rw (factors-split c n1 m 1 2, factors-split r n2 m 1 2)
+          (joints-append n1 n2 (factorsFrom c n1 m 2) (factorsFrom r n2 m 2) (factorsFrom c n1 1 (start c m)) (factorsFrom r n2 1 (start r m)) (factors-length c n1 m 2 ∙ sym (factors-length r n2 m 2))
+          ∙ (unfold factorsFrom in unfold jointStages in refl))
+
+      one-less : (t : ℕ) → t < K → behind t ≡ at-stage (K - suc t) ∷ behind (t + 1)
+      one-less t l =
+          let e : K - t ≡ (K - suc t) + 1 = omega arith in
+          let d : K - (t + 1) ≡ K - suc t = omega arith in
+          rw (e, d, last (K - suc t), reverse-append)
+
+  -- all of them
+  module _ (m : Matched c r) where
+    pub ahead-all : stagesOf c r ≡ ahead 0
+    unfolding factors further
+    ahead-all = rw (counts-agree c r (m .match), sub-zero)
+
+    pub behind-all : reverse (stagesOf c r) ≡ behind 0
+    unfolding factors
+    behind-all = rw (counts-agree c r (m .match), sub-zero)

@@ -1,0 +1,241 @@
+-- THE SUM OF A JOINT STAGE IN TWO STEPS, as the code makes it, and how large its numbers become, so that 64 bits hold them.
+-- A row of weights is a row of entries and the diagonal's own weight; entries may be those of a sheet or copied magnitudes.
+use mathlib.Core.List.{List}
+use mathlib.Core.Logic.{_≢_}
+use mathlib.Core.Path.{_≡_, refl, sym, ap, ap₂, _∙_}
+use Prim.Native.Nat.{ℕ, zero, suc, _+_, _*_, _/_, _%_, _≤_, _<_}
+use native.Mathlib.Nat.{zero-add}
+use native.Mathlib.Nat as NatL
+use native.Mathlib.Numerals.{add-one}
+use native.Mathlib.Decide.{ℕ-discrete}
+use native.Mathlib.Omega.{arith}
+use lib.IntN.{ℤ, pos, _+ℤ_, _-ℤ_, _*ℤ_}
+use lib.ListN.{length, set, replicate, length-set}
+use Rattle.whole.specs.Diff.{lin, Within}
+use Rattle.whole.specs.Laws.{distrib}
+use Rattle.whole.specs.Machine.{within-le, within-+, within--, within-*}
+use Rattle.whole.specs.Sum.{sum, sum-cong, sum-within}
+use Rattle.rules.specs.Numbers.{mostEntry, mostAllowance, at}
+use Rattle.rules.specs.Stages.{fill}
+use Rattle.rules.specs.Laws.Lists.{length-fill, fill-at, fill-past, same-list, set-at, set-other}
+use Rattle.rules.specs.Laws.Rect.{row-of, col-of}
+use Rattle.factor.specs.declared.Row.{Row}
+use Rattle.factor.specs.Reach.{Numbers, RowIn, numbers-set}
+
+-- ---- definitions
+-- row m: its entries, each times the number f of its column
+unfoldable pub entriesSum : List ℤ → Row → ℕ → (ℕ → ℤ) → ℤ
+entriesSum a r m f =
+    sum (r .left) (λ j. at a (r .at + j) *ℤ f j) +ℤ sum (r .right) (λ j. at a (r .at + r .left + j) *ℤ f (suc m + j))
+
+-- and its own weight times the number of its own column
+abbrev pub across : List ℤ → Row → ℕ → ℤ → (ℕ → ℤ) → ℤ
+across a r m own f = entriesSum a r m f +ℤ (own *ℤ f m)
+
+-- the number of row l in column k of a block whose rows have n numbers
+abbrev pub inColumn : List ℤ → ℕ → ℕ → ℕ → ℤ
+inColumn x n k l = at x (l * n + k)
+
+-- "V": row m times each of the n columns
+unfoldable pub columnSums : List ℤ → Row → ℕ → ℤ → List ℤ → ℕ → List ℤ
+columnSums a r m own x n = fill n (λ k. across a r m own (inColumn x n k)) (replicate 16 (pos 0))
+
+-- row m times V, less the own term of an element: up is the weight on the diagonal in its row of the block, x its number
+unfoldable pub jointSum : List ℤ → Row → ℕ → ℤ → ℤ → List ℤ → ℤ → ℤ
+jointSum a r m own up v x = across a r m own (at v) -ℤ ((up *ℤ own) *ℤ x)
+
+-- the largest number of V
+abbrev pub mostColumn : ℕ
+mostColumn = 16 * (mostEntry * mostAllowance)
+
+-- ---- what the code asks
+pub record Band (a : List ℤ) (r : Row) (m : ℕ) (own : ℤ) : Type 0 where
+  pub row : RowIn a 16 r m
+  pub small : Within mostEntry own
+
+-- m entries of a from place p on, and numbers of x from place k on, n apart
+pub record Apart (a : List ℤ) (p : ℕ) (x : List ℤ) (k n m : ℕ) : Type 0 where
+  pub few : m ≤ 16
+  pub room : p + m ≤ length a
+  pub places : (j : ℕ) → j < m → k + j * n < 256
+  pub entries : (j : ℕ) → j < m → Within mostEntry (at a (p + j))
+  pub numbers : Numbers mostAllowance x
+
+-- m entries of a from place p on, and numbers of V from place k on
+pub record Wide (a : List ℤ) (p : ℕ) (v : List ℤ) (k m : ℕ) : Type 0 where
+  pub room : p + m ≤ length a
+  pub columns : k + m ≤ 16
+  pub entries : (j : ℕ) → j < m → Within mostEntry (at a (p + j))
+  pub numbers : Numbers mostColumn v
+
+pub apart-small : {a x : List ℤ} {p k n m : ℕ} → Apart a p x k n m → (i : ℕ) → i ≤ m → Within mostColumn (sum i (λ j. at a (p + j) *ℤ at x (k + j * n)))
+apart-small {m} t i l =
+    let h = t .few in
+    within-le (omega arith) (sum-within i _ (λ j b. within-* (t .entries j (omega arith)) (t .numbers .small _)))
+
+pub wide-small : {a v : List ℤ} {p k m : ℕ} → Wide a p v k m → (i : ℕ) → i ≤ m → Within (16 * (mostEntry * mostColumn)) (sum i (λ j. at a (p + j) *ℤ at v (k + j)))
+wide-small {m} t i l =
+    let h = t .columns in
+    within-le (omega arith) (sum-within i _ (λ j b. within-* (t .entries j (omega arith)) (t .numbers .small _)))
+
+-- ---- a whole row: sixteen terms at most
+module _ {a : List ℤ} {r : Row} {m : ℕ} {own : ℤ} (h : Band a r m own) where
+  module _ {B : ℕ} (f : ℕ → ℤ) (k : (j : ℕ) → Within B (f j)) where
+    pub entries-small : Within (15 * (mostEntry * B)) (entriesSum a r m f)
+    unfolding entriesSum
+    entries-small =
+        let b : r .left + r .right ≤ 15 = let l = h .row .left in let q = h .row .right in omega arith in
+        within-le (omega (arith, NatL.mul-le-mul-right (mostEntry * B) b))
+        (within-+
+        (sum-within (r .left) _ (λ j b. within-* (h .row .entries j (omega arith)) (k j)))
+        (sum-within (r .right) _
+        (λ j b.
+        let e : r .at + (r .left + j) ≡ r .at + r .left + j = omega arith in
+        within-* (rw e at (h .row .entries (r .left + j) (omega arith))) (k (suc m + j)))))
+
+    pub across-small : Within (16 * (mostEntry * B)) (across a r m own f)
+    across-small = within-le (omega arith) (within-+ entries-small (within-* (h .small) (k m)))
+
+  -- the places of a row's entries and of its columns
+  module _ {x : List ℤ} {n k : ℕ} (l : n ≤ 16) (b : k < n) (q : Numbers mostAllowance x) where
+    reach : (j : ℕ) → j < 16 → j * n + k < 256
+    reach j g = omega (arith, NatL.mul-le-mul-right n g)
+
+    pub left-apart : Apart a (r .at) x k n (r .left)
+    left-apart = record {
+      few = let s = h .row .left in let t = h .row .right in omega arith;
+      room = let s = h .row .room in omega arith;
+      places = λ j g. let s = h .row .left in let t = h .row .right in omega (arith, reach j (omega arith));
+      entries = λ j g. h .row .entries j (omega arith);
+      numbers = q;
+    }
+
+    pub right-apart : Apart a (r .at + r .left) x ((m + 1) * n + k) n (r .right)
+    right-apart = record {
+      few = let t = h .row .right in omega arith;
+      room = let s = h .row .room in omega arith;
+      places = λ j g. let t = h .row .right in omega (arith, reach (suc m + j) (omega arith));
+      entries = λ j g. let e : r .at + (r .left + j) ≡ r .at + r .left + j = omega arith in rw e at (h .row .entries (r .left + j) (omega arith));
+      numbers = q;
+    }
+
+    pub own-reach : m * n + k < 256
+    own-reach = let t = h .row .right in reach m (omega arith)
+
+  module _ {v : List ℤ} (q : Numbers mostColumn v) where
+    pub left-wide : Wide a (r .at) v 0 (r .left)
+    left-wide = record {
+      room = let s = h .row .room in omega arith;
+      columns = let s = h .row .left in let t = h .row .right in omega arith;
+      entries = λ j g. h .row .entries j (omega arith);
+      numbers = q;
+    }
+
+    pub right-wide : Wide a (r .at + r .left) v (m + 1) (r .right)
+    right-wide = record {
+      room = let s = h .row .room in omega arith;
+      columns = let t = h .row .right in omega arith;
+      entries = λ j g. let e : r .at + (r .left + j) ≡ r .at + r .left + j = omega arith in rw e at (h .row .entries (r .left + j) (omega arith));
+      numbers = q;
+    }
+
+-- both sums, as the code makes them
+pub apart-runs : (a : List ℤ) (r : Row) (m : ℕ) (x : List ℤ) (n k : ℕ) →
+    sum (r .left) (λ j. at a (r .at + j) *ℤ at x (k + j * n))
+    +ℤ sum (r .right) (λ j. at a (r .at + r .left + j) *ℤ at x ((m + 1) * n + k + j * n))
+    ≡ entriesSum a r m (inColumn x n k)
+unfolding entriesSum
+apart-runs a r m x n k =
+    ap₂ _+ℤ_
+    (sum-cong (r .left) _ _ (λ j b. let e : k + j * n ≡ j * n + k = omega arith in rw e))
+    (sum-cong (r .right) _ _ (λ j b. let e : (m + 1) * n + k + j * n ≡ (suc m + j) * n + k = omega arith in rw e))
+
+pub wide-runs : (a : List ℤ) (r : Row) (m : ℕ) (v : List ℤ) →
+    sum (r .left) (λ j. at a (r .at + j) *ℤ at v (0 + j)) +ℤ sum (r .right) (λ j. at a (r .at + r .left + j) *ℤ at v (m + 1 + j))
+    ≡ entriesSum a r m (at v)
+unfolding entriesSum
+wide-runs a r m v = ap₂ _+ℤ_ (sum-cong (r .left) _ _ (λ j b. rw zero-add)) (sum-cong (r .right) _ _ (λ j b. rw add-one))
+
+-- ---- V holds small numbers, whatever its place
+zero-at : (n k : ℕ) → at (replicate n (pos 0)) k ≡ pos 0
+zero-at zero zero = refl
+zero-at zero (suc k) = refl
+zero-at (suc n) zero = refl
+zero-at (suc n) (suc k) = zero-at n k
+
+pub nothing : {B : ℕ} (n : ℕ) → Numbers B (replicate n (pos 0))
+nothing n = record { small = λ k. rw (zero-at n k) (record { within = omega arith }) }
+
+pub fill-small : {B : ℕ} (n : ℕ) (f : ℕ → ℤ) (v : List ℤ) → Numbers B v → ((k : ℕ) → k < n → Within B (f k)) → Numbers B (fill n f v)
+unfolding fill
+fill-small zero f v h g = h
+fill-small (suc n) f v h g = numbers-set (fill n f v) n (fill-small n f v h (λ k l. g k (omega arith))) (g n (omega arith))
+
+pub columns-small : {a : List ℤ} {r : Row} {m : ℕ} {own : ℤ} {x : List ℤ} (n : ℕ) → Band a r m own → Numbers mostAllowance x → Numbers mostColumn (columnSums a r m own x n)
+unfolding columnSums
+columns-small {x} n h q = fill-small n _ (replicate 16 (pos 0)) (nothing 16) (λ k l. across-small h (inColumn x n k) (λ j. q .small (j * n + k)))
+
+pub joint-small : {a : List ℤ} {r : Row} {m : ℕ} {own up x : ℤ} {v : List ℤ} → Band a r m own → Within mostEntry up → Numbers mostColumn v → Within mostAllowance x →
+    Within (16 * (mostEntry * mostColumn) + mostEntry * mostEntry * mostAllowance) (jointSum a r m own up v x)
+unfolding jointSum
+joint-small {v} h u q g = within-- (across-small h (at v) (q .small)) (within-* (within-* u (h .small)) g)
+
+-- ---- V kept up to date: the number of row m in column j became z
+entries-cong : {a : List ℤ} {r : Row} {m : ℕ} {own : ℤ} → Band a r m own → (f g : ℕ → ℤ) → ((l : ℕ) → l ≢ m → f l ≡ g l) → entriesSum a r m f ≡ entriesSum a r m g
+unfolding entriesSum
+entries-cong {r} {m} h f g e =
+    ap₂ _+ℤ_
+    (sum-cong (r .left) _ _ (λ j b. let l = h .row .left in rw (e j (λ z. omega arith))))
+    (sum-cong (r .right) _ _ (λ j b. rw (e (suc m + j) (λ z. omega arith))))
+
+module _ {a : List ℤ} {r : Row} {m : ℕ} {own : ℤ} (h : Band a r m own) (x : List ℤ) (n j : ℕ) (z : ℤ) (l : j < n) (few : n ≤ 16) (room : m * n + j < length x) where
+  abbrev x′ : List ℤ
+  x′ = set x (m * n + j) z
+
+  abbrev sums : List ℤ → List ℤ
+  sums y = columnSums a r m own y n
+
+  abbrev each : List ℤ → ℕ → ℤ
+  each y k = across a r m own (inColumn y n k)
+
+  sums-at : (y : List ℤ) (k : ℕ) → k < n → at (sums y) k ≡ each y k
+  unfolding columnSums
+  sums-at y k b = fill-at n _ (replicate 16 (pos 0)) k b few
+
+  sums-past : (y : List ℤ) (k : ℕ) → n ≤ k → at (sums y) k ≡ at (replicate 16 (pos 0)) k
+  unfolding columnSums
+  sums-past y k b = fill-past n _ (replicate 16 (pos 0)) k b
+
+  sums-length : (y : List ℤ) → length (sums y) ≡ 16
+  unfolding columnSums
+  sums-length y = length-fill n _ (replicate 16 (pos 0))
+
+  there : (k t : ℕ) → k < n → (k ≡ j → t ≢ m) → inColumn x′ n k t ≡ inColumn x n k t
+  there k t b q =
+      set-other x (m * n + j) (t * n + k) z
+      (λ e. q (sym (col-of 0 n t k b) ∙ ap (λ (u : ℕ). u % n) e ∙ col-of 0 n m j l) (sym (row-of 0 n t k b) ∙ ap (λ (u : ℕ). u / n) e ∙ row-of 0 n m j l))
+
+  abbrev step : ℤ
+  step = at (sums x) j +ℤ (own *ℤ (z -ℤ at x (m * n + j)))
+
+  plus : (e o y z : ℤ) → e +ℤ (o *ℤ z) ≡ (e +ℤ (o *ℤ y)) +ℤ (o *ℤ (z -ℤ y))
+  plus e o y z = simp distrib (simp lin (omega arith))
+
+  same : (k : ℕ) → k < n → Dec (k ≡ j) → at (sums x′) k ≡ at (set (sums x) j step) k
+  same k b (yes e) =
+      rw e
+      (sums-at x′ j l
+      ∙ ap₂ (λ (p q : ℤ). p +ℤ (own *ℤ q)) (entries-cong h _ _ (λ t q. there j t l (λ i. q))) (set-at x (m * n + j) z room)
+      ∙ plus (entriesSum a r m (inColumn x n j)) own (at x (m * n + j)) z
+      ∙ ap (λ (p : ℤ). p +ℤ (own *ℤ (z -ℤ at x (m * n + j)))) (sym (sums-at x j l))
+      ∙ sym (set-at (sums x) j step (omega (arith, sums-length x))))
+  same k b (no e) =
+      sums-at x′ k b
+      ∙ ap₂ (λ (p q : ℤ). p +ℤ (own *ℤ q)) (entries-cong h _ _ (λ t q. there k t b (λ i. absurd (e i)))) (there k m b (λ i. absurd (e i)))
+      ∙ sym (sums-at x k b)
+      ∙ sym (set-other (sums x) j k step e)
+
+  pub columns-set : columnSums a r m own (set x (m * n + j) z) n ≡ set (columnSums a r m own x n) j (at (columnSums a r m own x n) j +ℤ (own *ℤ (z -ℤ at x (m * n + j))))
+  columns-set =
+      same-list n (sums x′) (set (sums x) j step) (sums-length x′ ∙ sym (length-set (sums x) j step ∙ sums-length x)) (λ k b. same k b (ℕ-discrete k j))
+      (λ k b. sums-past x′ k b ∙ sym (set-other (sums x) j k step (λ e. omega arith) ∙ sums-past x k b))

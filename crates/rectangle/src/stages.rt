@@ -1,0 +1,84 @@
+// One stage of a rectangle: the factors at place i of a checked column sheet and at place j of a checked row sheet.
+ghost use mathlib.Core.Path.{_≡_};
+ghost use Prim.Native.Nat.{_*_};
+ghost use Rattle.rules.specs.Numbers.{bound, mostAllowance};
+ghost use Rattle.rules.specs.Factors.{factorAt};
+ghost use Rattle.rules.specs.Stages.{nearest, forward, undo, allow};
+ghost use Rattle.rules.specs.Shapes.{jointStage};
+ghost use Rattle.factor.specs.Reach.{Numbers};
+ghost use Rattle.rectangle.specs.Steps.{stepped};
+ghost use Rattle.rectangle.specs.Links.{Paired};
+use crate::moves::permute;
+use crate::moves::unpermute;
+use crate::steps::Stepped;
+use crate::steps::allow_weights;
+use crate::steps::unweigh;
+use crate::steps::weigh;
+use factor::is_move;
+use factor::spot_at;
+
+// Applied.
+pub fn apply_pair(
+    col: &[i32],
+    row: &[i32],
+    n1: usize,
+    n2: usize,
+    i: usize,
+    j: usize,
+    x: [i32; 256],
+) -> Stepped
+    requires { ⌜ Paired (now col) (now row) n1 n2 i j × Numbers bound x ⌝ }
+    ensures { λ s. ⌜ (s ≡ stepped bound (n1 * n2) (forward nearest (n1 * n2) (jointStage n1 n2 (factorAt (now (col .entry)) n1 i) (factorAt (now (row .entry)) n2 j)) x) x) × Numbers bound (s .block) ⌝ }
+{
+    let fa = spot_at(col, n1, i);
+    let fb = spot_at(row, n2, j);
+    if is_move(fa) {
+        let b = permute(col, fa, row, fb, x);
+        return Stepped { ok: true, block: b };
+    }
+    weigh(col, fa, row, fb, x)
+}
+
+// Undone.
+pub fn undo_pair(
+    col: &[i32],
+    row: &[i32],
+    n1: usize,
+    n2: usize,
+    i: usize,
+    j: usize,
+    y: [i32; 256],
+) -> Stepped
+    requires { ⌜ Paired (now col) (now row) n1 n2 i j × Numbers bound y ⌝ }
+    ensures { λ s. ⌜ (s ≡ stepped bound (n1 * n2) (undo nearest (n1 * n2) (jointStage n1 n2 (factorAt (now (col .entry)) n1 i) (factorAt (now (row .entry)) n2 j)) y) y) × Numbers bound (s .block) ⌝ }
+{
+    let fa = spot_at(col, n1, i);
+    let fb = spot_at(row, n2, j);
+    if is_move(fa) {
+        let b = unpermute(col, fa, row, fb, y);
+        return Stepped { ok: true, block: b };
+    }
+    unweigh(col, fa, row, fb, y)
+}
+
+// On allowances.
+pub fn allow_pair(
+    col: &[i32],
+    row: &[i32],
+    n1: usize,
+    n2: usize,
+    i: usize,
+    j: usize,
+    b: [i32; 256],
+) -> Stepped
+    requires { ⌜ Paired (now col) (now row) n1 n2 i j × Numbers mostAllowance b ⌝ }
+    ensures { λ s. ⌜ (s ≡ stepped mostAllowance (n1 * n2) (allow nearest (n1 * n2) (jointStage n1 n2 (factorAt (now (col .entry)) n1 i) (factorAt (now (row .entry)) n2 j)) b) b) × Numbers mostAllowance (s .block) ⌝ }
+{
+    let fa = spot_at(col, n1, i);
+    let fb = spot_at(row, n2, j);
+    if is_move(fa) {
+        let a = permute(col, fa, row, fb, b);
+        return Stepped { ok: true, block: a };
+    }
+    allow_weights(col, fa, row, fb, b)
+}
