@@ -1,0 +1,256 @@
+// Times the library's calls and their twins in C, by turns, in one process, and prints the best round of each. Before that it
+// holds every answer and every output of the one to the other's: on the blocks that are timed, on blocks at and beyond the bound,
+// and on sheets with a fault. usage: main [ROUNDS [SEED]]
+// Two dimensions are compiled in by -DRECTANGLE (bench/run).
+#include "bench.h"
+#include <stdio.h>
+#include <stdlib.h>
+#include <string.h>
+#include <time.h>
+
+static uint64_t state;
+
+static uint64_t next(void) // xorshift64*
+{
+	state ^= state >> 12;
+	state ^= state << 25;
+	state ^= state >> 27;
+	return state * 2685821657736338717u;
+}
+
+static int32_t between(int32_t lo, int32_t hi)
+{
+	return lo + (int32_t)((next() >> 33) % (uint64_t)((int64_t)hi - lo + 1));
+}
+
+// ---- recipes
+
+struct sheet {
+	size_t len;
+	int32_t at[4386];
+};
+
+static const int32_t built_in[45] = {
+	4, 5, 1, 3, 2, 0, 1, 2, 1, 1, 1, 1, 1612, 0, -4096, -815, 3281, 0, 3, -1, 1, 1, 1, 6238, 2048, -2676, 3101, 2484, 0,
+	2, 1, 1, 1, 1, -2106, 2106, -4096, -872, 3281, 0, 1, 3, 2, 1, 0};
+
+static void put(struct sheet *s, int32_t v)
+{
+	s->at[s->len++] = v;
+}
+
+// Entries up to size; the kinds are given, all else comes from the seed.
+static struct sheet made(int32_t n, const char *kinds, int32_t size)
+{
+	struct sheet s = {0};
+	put(&s, n);
+	put(&s, (int32_t)strlen(kinds));
+	for (; *kinds; kinds++) {
+		put(&s, *kinds - '0');
+		if (*kinds == '1') {
+			int32_t *p = s.at + s.len;
+			for (int32_t e = 0; e < n; e++) {
+				put(&s, e);
+				int32_t k = between(0, e), v = p[k];
+				p[k] = p[e];
+				p[e] = v;
+			}
+			continue;
+		}
+		int32_t many = n * (n - 1) / 2;
+		if (*kinds == '4') {
+			put(&s, between(0, n - 1));
+			many = n - 1;
+		}
+		for (int32_t e = 0; e < n; e++)
+			put(&s, between(0, 1) ? 1 : -1);
+		for (int32_t e = 0; e < many; e++)
+			put(&s, between(-size, size));
+	}
+	return s;
+}
+
+// ---- a task: a recipe, a direction, the library's call and the twins
+
+struct call {
+	line_call *line;
+	block_call *block;
+};
+
+struct task {
+	const char *recipe, *direction;
+	const struct sheet *col, *row; // no row sheet: a line
+	struct call library, twin, plain;
+	size_t size, many;
+	const int32_t *x; // the blocks, end to end
+};
+
+static struct answer ask(struct call c, const struct sheet *col, const struct sheet *row, const int32_t *x, int32_t *y, size_t size)
+{
+	if (c.line)
+		return c.line(col->at, col->len, x, size, y, size);
+	return c.block(col->at, col->len, row->at, row->len, x, size, y, size);
+}
+
+static size_t asked, refused;
+
+static void fail(const struct task *t, const char *what, size_t k)
+{
+	printf("%s %s: %s, case %zu\n", t->recipe, t->direction, what, k);
+	exit(1);
+}
+
+// One answer and one output: a refused call leaves the output as it was.
+static struct answer same(const struct task *t, const struct sheet *col, const struct sheet *row, const int32_t *x, size_t k, int32_t *out)
+{
+	int32_t y[256], z[256];
+	memset(y, 0x5a, sizeof y);
+	memset(z, 0x5a, sizeof z);
+	struct answer a = ask(t->library, col, row, x, y, t->size), b = ask(t->twin, col, row, x, z, t->size);
+	if (a.number != b.number || a.side != b.side || a.place != b.place) {
+		printf("library %u %u %llu, twin %u %u %llu\n", a.number, a.side, (unsigned long long)a.place, b.number, b.side,
+		       (unsigned long long)b.place);
+		fail(t, "two answers", k);
+	}
+	if (memcmp(y, z, sizeof y))
+		fail(t, "two outputs", k);
+	if (t->plain.line || t->plain.block) {
+		memset(z, 0x5a, sizeof z);
+		b = ask(t->plain, col, row, x, z, t->size);
+		if (a.number != b.number || a.side != b.side || a.place != b.place || memcmp(y, z, sizeof y))
+			fail(t, "the double sum differs", k);
+	}
+	asked++;
+	refused += a.number != 0;
+	if (out)
+		memcpy(out, y, t->size * sizeof *y);
+	return a;
+}
+
+// All blocks, which are accepted; what comes out is kept if there is room for it.
+static void compare_timed(const struct task *t, int32_t *out)
+{
+	for (size_t k = 0; k < t->many; k++)
+		if (same(t, t->col, t->row, t->x + k * t->size, k, out ? out + k * t->size : NULL).number)
+			fail(t, "a block that is timed is refused", k);
+}
+
+// Blocks near the bound and beyond it, then sheets with one number changed, cut or left over.
+static void compare_faults(const struct task *t, size_t many)
+{
+	int32_t x[256];
+	for (size_t k = 0; k < many; k++) {
+		int32_t most = SAMPLE >> between(0, 8);
+		for (size_t e = 0; e < t->size; e++)
+			x[e] = between(-most, most);
+		if (between(0, 9) == 0)
+			x[between(0, (int32_t)t->size - 1)] = between(0, 1) ? SAMPLE + 1 : -SAMPLE - 1;
+		same(t, t->col, t->row, x, k, NULL);
+	}
+	for (size_t k = 0; k < many; k++) {
+		static struct sheet s[2];
+		s[0] = *t->col;
+		if (t->row)
+			s[1] = *t->row;
+		struct sheet *f = &s[t->row ? between(0, 1) : 0];
+		size_t at = (size_t)between(0, (int32_t)f->len - 1);
+		switch (between(0, 5)) {
+		case 0: f->at[at] += between(0, 1) ? 1 : -1; break;
+		case 1: f->at[at] = between(-20000, 20000); break;
+		case 2: f->at[at] = f->at[between(0, (int32_t)f->len - 1)]; break;
+		case 3: f->len = at; break;
+		case 4: f->at[f->len++] = 1; break;
+		default: f->at[between(0, 1)] = between(-1, 40); break;
+		}
+		same(t, &s[0], &s[1], t->x, k, NULL);
+	}
+}
+
+static double seconds(void) // of this process alone, since the machine may be shared
+{
+	struct timespec t;
+	clock_gettime(CLOCK_PROCESS_CPUTIME_ID, &t);
+	return (double)t.tv_sec + (double)t.tv_nsec * 1e-9;
+}
+
+// One round: ns for each block, if it is the best so far.
+static void round_of(const struct task *t, struct call c, int32_t *y, double *best)
+{
+	double start = seconds();
+	for (size_t k = 0; k < t->many; k++)
+		ask(c, t->col, t->row, t->x + k * t->size, y + k * t->size, t->size);
+	double ns = (seconds() - start) * 1e9 / (double)t->many;
+	if (ns < *best)
+		*best = ns;
+}
+
+static void time_task(const struct task *t, int rounds, int32_t *y)
+{
+	double a = 1e30, b = 1e30, c = 1e30;
+	for (int r = 0; r < rounds; r++) {
+		if (r % 2)
+			round_of(t, t->twin, y, &b);
+		round_of(t, t->library, y, &a);
+		if (r % 2 == 0)
+			round_of(t, t->twin, y, &b);
+		if ((t->plain.line || t->plain.block) && r < 3)
+			round_of(t, t->plain, y, &c);
+	}
+	printf("%-34s %-8s %10.1f %10.1f %8.2f", t->recipe, t->direction, a, b, a / b);
+	if (c < 1e30)
+		printf("   (double sum in C: %.1f)", c);
+	printf("\n");
+	fflush(stdout);
+}
+
+// A recipe in both directions: the inverse is asked for what the forward run gave.
+static void both(const char *recipe, const struct sheet *col, const struct sheet *row, const struct call calls[6], size_t many, int rounds)
+{
+	size_t size = (size_t)col->at[0] * (row ? (size_t)row->at[0] : 1), all = many * size;
+	int32_t *x = malloc(all * sizeof *x), *y = malloc(all * sizeof *y), *z = malloc(all * sizeof *z);
+	if (!x || !y || !z)
+		exit(1);
+	for (size_t k = 0; k < all; k++)
+		x[k] = between(-32768, 32767);
+	struct task forth = {recipe, "forward", col, row, calls[0], calls[1], calls[2], size, many, x};
+	struct task back = {recipe, "inverse", col, row, calls[3], calls[4], calls[5], size, many, y};
+	compare_timed(&forth, y);
+	compare_timed(&back, z);
+	if (memcmp(x, z, all * sizeof *x))
+		fail(&back, "a block does not come back", 0);
+	compare_faults(&forth, many);
+	compare_faults(&back, many);
+	time_task(&forth, rounds, z);
+	time_task(&back, rounds, z);
+	free(x);
+	free(y);
+	free(z);
+}
+
+int main(int argc, char **argv)
+{
+	int rounds = argc > 1 ? atoi(argv[1]) : 25;
+	state = argc > 2 ? strtoull(argv[2], NULL, 10) | 1 : 88172645463325253u;
+	printf("%-34s %-8s %10s %10s %8s\n", "recipe", "", "library ns", "C ns", "ratio");
+	static struct sheet a, b;
+	static const struct call line[6] = {{bench_forward, 0}, {twin_forward, 0}, {0, 0}, {bench_inverse, 0}, {twin_inverse, 0}, {0, 0}};
+	a.len = 45;
+	memcpy(a.at, built_in, sizeof built_in);
+	both("line of 4, built-in, 5 factors", &a, NULL, line, 20000, rounds);
+	a = made(16, "23412341", 2048);
+	both("line of 16, 8 factors", &a, NULL, line, 20000, rounds);
+#ifdef RECTANGLE
+	static const struct call block[6] = {{0, bench_rectangle_forward}, {0, twin2_forward}, {0, plain2_forward},
+					     {0, bench_rectangle_inverse}, {0, twin2_inverse}, {0, plain2_inverse}};
+	a = made(8, "12342", 1024);
+	b = made(8, "12342", 1024);
+	both("block of 8 by 8, 5 factors", &a, &b, block, 1000, rounds);
+	a = made(16, "12342", 1024);
+	b = made(16, "12342", 1024);
+	both("block of 16 by 16, 5 factors", &a, &b, block, 250, rounds);
+#else
+	(void)b;
+#endif
+	printf("%zu answers and outputs equal, %zu of them refusals\n", asked, refused);
+	return 0;
+}

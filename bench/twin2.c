@@ -1,0 +1,315 @@
+// The rectangle in plain C, twice: by separable sums (first down the columns, then along the row), and by the double sum as
+// document 01 prints it.
+#include "bench.h"
+#include <stdbool.h>
+#include <string.h>
+
+static struct answer refused(uint32_t number, uint32_t side, uint64_t place)
+{
+	return (struct answer){number, side, place};
+}
+
+static size_t numbers(const int32_t *f, size_t n)
+{
+	switch (f[0]) {
+	case 1: return 1 + n;
+	case 4: return 2 + n + (n - 1);
+	default: return 1 + n + n * (n - 1) / 2;
+	}
+}
+
+static bool is_within(int64_t z)
+{
+	return z >= -SAMPLE && z <= SAMPLE;
+}
+
+// A factor where it stands.
+struct spot {
+	int32_t kind;
+	size_t n, row;
+	const int32_t *signs, *entries;
+};
+
+static struct spot spot_at(const int32_t *f, size_t n)
+{
+	if (f[0] == 4)
+		return (struct spot){4, n, (size_t)f[1], f + 2, f + 2 + n};
+	return (struct spot){f[0], n, 0, f + 1, f + 1 + n};
+}
+
+// The entries of a row lie side by side: those left of the diagonal, then those right of it.
+struct row {
+	const int32_t *at;
+	size_t left, right;
+};
+
+static struct row row_of(const struct spot *f, size_t m)
+{
+	switch (f->kind) {
+	case 2: return (struct row){f->entries + m * (m - 1) / 2, m, 0};
+	case 3: return (struct row){f->entries + m * (f->n - 1) - m * (m - 1) / 2, 0, f->n - 1 - m};
+	default:
+		if (m == f->row)
+			return (struct row){f->entries, m, f->n - 1 - m};
+		return (struct row){f->entries, 0, 0};
+	}
+}
+
+// The element that is recovered in turn t.
+static size_t place_of(const struct spot *f, size_t t)
+{
+	switch (f->kind) {
+	case 3: return f->n - 1 - t;
+	case 4: return t < f->n - 1 - f->row ? f->row + 1 + t : t - (f->n - 1 - f->row);
+	default: return t;
+	}
+}
+
+// 1 to 9 for both sheets, 12, 10, and the bound of stage 0.
+static struct answer check_run(const int32_t *col, size_t cn, const int32_t *row, size_t rn, const int32_t *x, size_t xn, size_t yn)
+{
+	struct answer a = twin_check(col, cn, 0);
+	if (a.number)
+		return a;
+	a = twin_check(row, rn, 1);
+	if (a.number)
+		return a;
+	size_t n = (size_t)col[0], p = (size_t)row[0];
+	const int32_t *f = col + 2, *g = row + 2;
+	for (int32_t k = 0;; k++) {
+		if (k == col[1] && k == row[1])
+			break;
+		if (k == col[1] || k == row[1] || f[0] != g[0])
+			return refused(12, 0, (uint64_t)k);
+		f += numbers(f, n);
+		g += numbers(g, p);
+	}
+	if (xn != n * p)
+		return refused(10, 0, 0);
+	if (yn != n * p)
+		return refused(10, 1, 0);
+	for (size_t k = 0; k < xn; k++)
+		if (x[k] < -SAMPLE || x[k] > SAMPLE)
+			return refused(11, 0, 0);
+	return refused(0, 0, 0);
+}
+
+// ---- separable sums
+
+// Row i over the columns: the entries of row i off the diagonal, times the numbers above and below.
+static void column_sums(const struct spot *a, size_t i, const int32_t *x, size_t n, int64_t *v)
+{
+	struct row r = row_of(a, i);
+	memset(v, 0, n * sizeof *v);
+	for (size_t l = 0; l < r.left; l++)
+		for (size_t k = 0; k < n; k++)
+			v[k] += (int64_t)r.at[l] * x[l * n + k];
+	for (size_t l = 0; l < r.right; l++)
+		for (size_t k = 0; k < n; k++)
+			v[k] += (int64_t)r.at[r.left + l] * x[(i + 1 + l) * n + k];
+}
+
+// The entries of row j off the diagonal, times the sums v.
+static int64_t joint_sum(const struct spot *b, size_t j, const int64_t *v)
+{
+	struct row r = row_of(b, j);
+	int64_t sum = 0;
+	for (size_t k = 0; k < r.left; k++)
+		sum += r.at[k] * v[k];
+	for (size_t k = 0; k < r.right; k++)
+		sum += r.at[r.left + k] * v[j + 1 + k];
+	return sum;
+}
+
+static bool apply(const struct spot *a, const struct spot *b, const int32_t *x, int32_t *y)
+{
+	size_t n = b->n;
+	for (size_t i = 0; i < a->n; i++) {
+		int64_t off[ORDER], v[ORDER]; // without the diagonal of A, and with it
+		column_sums(a, i, x, n, off);
+		for (size_t k = 0; k < n; k++)
+			v[k] = off[k] + 4096 * (int64_t)a->signs[i] * x[i * n + k];
+		for (size_t j = 0; j < n; j++) {
+			int64_t s = joint_sum(b, j, v) + 4096 * b->signs[j] * off[j];
+			int64_t z = (int64_t)(a->signs[i] * b->signs[j]) * x[i * n + j] + ((s + 8388608) >> 24);
+			if (!is_within(z))
+				return false;
+			y[i * n + j] = (int32_t)z;
+		}
+	}
+	return true;
+}
+
+// In place: a row's sums down the columns are of recovered rows, and grow by each element that is recovered in the row.
+static bool undo(const struct spot *a, const struct spot *b, int32_t *x)
+{
+	size_t n = b->n;
+	for (size_t t = 0; t < a->n; t++) {
+		size_t i = place_of(a, t);
+		int64_t v[ORDER];
+		column_sums(a, i, x, n, v);
+		for (size_t u = 0; u < n; u++) {
+			size_t j = place_of(b, u);
+			int64_t s = joint_sum(b, j, v) + 4096 * b->signs[j] * v[j];
+			int64_t z = a->signs[i] * b->signs[j] * (x[i * n + j] - ((s + 8388608) >> 24));
+			if (!is_within(z))
+				return false;
+			x[i * n + j] = (int32_t)z;
+			v[j] += 4096 * (int64_t)a->signs[i] * z;
+		}
+	}
+	return true;
+}
+
+// ---- the double sum
+
+struct matrix {
+	int32_t at[ORDER][ORDER];
+};
+
+static struct matrix matrix_of(const struct spot *f)
+{
+	struct matrix a = {0};
+	for (size_t m = 0; m < f->n; m++) {
+		struct row r = row_of(f, m);
+		memcpy(a.at[m], r.at, r.left * sizeof *r.at);
+		a.at[m][m] = 4096 * f->signs[m];
+		memcpy(a.at[m] + m + 1, r.at + r.left, r.right * sizeof *r.at);
+	}
+	return a;
+}
+
+static int64_t double_sum(const struct matrix *a, size_t n1, const struct matrix *b, size_t n2, size_t i, size_t j, const int32_t *x)
+{
+	int64_t s = 0;
+	for (size_t l = 0; l < n1; l++)
+		for (size_t k = 0; k < n2; k++)
+			if (l != i || k != j)
+				s += (int64_t)a->at[i][l] * b->at[j][k] * x[l * n2 + k];
+	return (s + 8388608) >> 24;
+}
+
+static bool plain_apply(const struct spot *f, const struct spot *g, const int32_t *x, int32_t *y)
+{
+	struct matrix a = matrix_of(f), b = matrix_of(g);
+	for (size_t i = 0; i < f->n; i++)
+		for (size_t j = 0; j < g->n; j++) {
+			size_t e = i * g->n + j;
+			int64_t z = (int64_t)(f->signs[i] * g->signs[j]) * x[e] + double_sum(&a, f->n, &b, g->n, i, j, x);
+			if (!is_within(z))
+				return false;
+			y[e] = (int32_t)z;
+		}
+	return true;
+}
+
+static bool plain_undo(const struct spot *f, const struct spot *g, int32_t *x)
+{
+	struct matrix a = matrix_of(f), b = matrix_of(g);
+	for (size_t t = 0; t < f->n; t++)
+		for (size_t u = 0; u < g->n; u++) {
+			size_t i = place_of(f, t), j = place_of(g, u), e = i * g->n + j;
+			int64_t z = f->signs[i] * g->signs[j] * (x[e] - double_sum(&a, f->n, &b, g->n, i, j, x));
+			if (!is_within(z))
+				return false;
+			x[e] = (int32_t)z;
+		}
+	return true;
+}
+
+// ---- permutations and runs
+
+static void permute(const struct spot *a, const struct spot *b, const int32_t *x, int32_t *y)
+{
+	for (size_t i = 0; i < a->n; i++)
+		for (size_t j = 0; j < b->n; j++)
+			y[i * b->n + j] = x[(size_t)a->signs[i] * b->n + (size_t)b->signs[j]];
+}
+
+static void unpermute(const struct spot *a, const struct spot *b, int32_t *x)
+{
+	int32_t y[ORDER * ORDER];
+	memcpy(y, x, a->n * b->n * sizeof *x);
+	for (size_t i = 0; i < a->n; i++)
+		for (size_t j = 0; j < b->n; j++)
+			x[(size_t)a->signs[i] * b->n + (size_t)b->signs[j]] = y[i * b->n + j];
+}
+
+static inline struct answer forward(bool plain, const int32_t *col, size_t cn, const int32_t *row, size_t rn, const int32_t *x,
+				    size_t xn, int32_t *y, size_t yn)
+{
+	struct answer c = check_run(col, cn, row, rn, x, xn, yn);
+	if (c.number)
+		return c;
+	size_t many = (size_t)col[1];
+	int32_t v[2][ORDER * ORDER]; // this stage and the next, by turns
+	memcpy(v[0], x, xn * sizeof *x);
+	const int32_t *f = col + 2, *g = row + 2;
+	for (size_t t = 0; t < many; t++) {
+		struct spot a = spot_at(f, (size_t)col[0]), b = spot_at(g, (size_t)row[0]);
+		const int32_t *from = v[t % 2];
+		int32_t *to = v[1 - t % 2];
+		bool ok = true;
+		if (a.kind == 1)
+			permute(&a, &b, from, to);
+		else
+			ok = plain ? plain_apply(&a, &b, from, to) : apply(&a, &b, from, to);
+		if (!ok)
+			return refused(11, 0, t + 1);
+		f += numbers(f, a.n);
+		g += numbers(g, b.n);
+	}
+	memcpy(y, v[many % 2], yn * sizeof *y);
+	return refused(0, 0, 0);
+}
+
+static inline struct answer inverse(bool plain, const int32_t *col, size_t cn, const int32_t *row, size_t rn, const int32_t *x,
+				    size_t xn, int32_t *y, size_t yn)
+{
+	struct answer c = check_run(col, cn, row, rn, x, xn, yn);
+	if (c.number)
+		return c;
+	size_t many = (size_t)col[1];
+	struct spot a[COUNT], b[COUNT];
+	const int32_t *f = col + 2, *g = row + 2;
+	for (size_t t = 0; t < many; t++) {
+		a[t] = spot_at(f, (size_t)col[0]);
+		b[t] = spot_at(g, (size_t)row[0]);
+		f += numbers(f, a[t].n);
+		g += numbers(g, b[t].n);
+	}
+	int32_t v[ORDER * ORDER];
+	memcpy(v, x, xn * sizeof *x);
+	for (size_t t = 0; t < many; t++) {
+		size_t k = many - 1 - t;
+		bool ok = true;
+		if (a[k].kind == 1)
+			unpermute(&a[k], &b[k], v);
+		else
+			ok = plain ? plain_undo(&a[k], &b[k], v) : undo(&a[k], &b[k], v);
+		if (!ok)
+			return refused(11, 0, t + 1);
+	}
+	memcpy(y, v, yn * sizeof *y);
+	return refused(0, 0, 0);
+}
+
+struct answer twin2_forward(const int32_t *col, size_t cn, const int32_t *row, size_t rn, const int32_t *x, size_t xn, int32_t *y, size_t yn)
+{
+	return forward(false, col, cn, row, rn, x, xn, y, yn);
+}
+
+struct answer twin2_inverse(const int32_t *col, size_t cn, const int32_t *row, size_t rn, const int32_t *x, size_t xn, int32_t *y, size_t yn)
+{
+	return inverse(false, col, cn, row, rn, x, xn, y, yn);
+}
+
+struct answer plain2_forward(const int32_t *col, size_t cn, const int32_t *row, size_t rn, const int32_t *x, size_t xn, int32_t *y, size_t yn)
+{
+	return forward(true, col, cn, row, rn, x, xn, y, yn);
+}
+
+struct answer plain2_inverse(const int32_t *col, size_t cn, const int32_t *row, size_t rn, const int32_t *x, size_t xn, int32_t *y, size_t yn)
+{
+	return inverse(true, col, cn, row, rn, x, xn, y, yn);
+}
