@@ -1,0 +1,50 @@
+-- The loop counts cases up to more than any stream has.
+use Prim.Native.Nat.{_-_, _≤_}
+use borrow.Author.Needs.{needs}
+use Rattle.trials.proofs.cases.run_all.Statement.{statement}
+use Rattle.trials.proofs.cases.run_all.Tie as tie
+
+abbrev Inv-loop : tie.InvT-loop
+Inv-loop counts₀ case₀ counts case = case ≤ 1000000000
+
+abbrev μ-loop : tie.MeasureT-loop
+μ-loop counts₀ case₀ counts case = 1000000000 - case
+
+loop-holds : tie.Need-loop-holds Inv-loop μ-loop
+loop-holds c = search needs
+
+next-case-requires : tie.Need-next-case-requires Inv-loop μ-loop
+next-case-requires c κs = search needs
+
+returns : tie.Need-returns Inv-loop μ-loop
+returns c = search needs
+
+note-requires : tie.Need-note-requires Inv-loop μ-loop
+note-requires c κs = search needs
+
+add-case : tie.Need-add-case Inv-loop μ-loop
+add-case c = search needs
+
+loop-less : tie.Need-loop-less Inv-loop μ-loop
+loop-less c = search needs
+
+loop-again : tie.Need-loop-again Inv-loop μ-loop
+loop-again c = search needs
+
+returns-2 : tie.Need-returns-2 Inv-loop μ-loop
+returns-2 c = search needs
+
+pub run-all-spec : {M : Type 1} → statement M
+run-all-spec =
+    tie.close
+    (tie.spec
+    Inv-loop
+    μ-loop
+    loop-holds
+    next-case-requires
+    returns
+    note-requires
+    add-case
+    loop-less
+    loop-again
+    returns-2)

@@ -1,0 +1,56 @@
+-- The loop: the slice keeps its length.
+use Prim.Native.Nat.{_-_}
+use mathlib.Core.Path.{_≡_}
+use lib.ListN.{length}
+use borrow.Author.Needs.{needs}
+use Rattle.trials.proofs.parts.store_bytes.Statement.{statement}
+use Rattle.trials.proofs.parts.store_bytes.Tie as tie
+
+abbrev Inv-loop : tie.InvT-loop
+Inv-loop room w₀ n k₀ w k = length w ≡ length w₀
+
+abbrev μ-loop : tie.MeasureT-loop
+μ-loop room w₀ n k₀ w k = length w₀ - k
+
+loop-holds : tie.Need-loop-holds Inv-loop μ-loop
+loop-holds c = search needs
+
+word-at-requires : tie.Need-word-at-requires Inv-loop μ-loop
+word-at-requires c κs = search needs
+
+mul-t7 : tie.Need-mul-t7 Inv-loop μ-loop
+mul-t7 c = search needs
+
+slice-set-from-w : tie.Need-slice-set-from-w Inv-loop μ-loop
+slice-set-from-w c = search needs
+
+add-k : tie.Need-add-k Inv-loop μ-loop
+add-k c = search needs
+
+loop-less : tie.Need-loop-less Inv-loop μ-loop
+loop-less c = search needs
+
+loop-again : tie.Need-loop-again Inv-loop μ-loop
+loop-again c = search needs
+
+same-length : tie.Need-same-length Inv-loop μ-loop
+same-length c = search needs
+
+returns : tie.Need-returns Inv-loop μ-loop
+returns c = search needs
+
+pub store-bytes-spec : {M : Type 1} → statement M
+store-bytes-spec =
+    tie.close
+    (tie.spec
+    Inv-loop
+    μ-loop
+    loop-holds
+    word-at-requires
+    mul-t7
+    slice-set-from-w
+    add-k
+    loop-less
+    loop-again
+    same-length
+    returns)

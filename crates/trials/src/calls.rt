@@ -1,0 +1,120 @@
+// Each call on the parts of a case: A, B and X are lent to be read, Y to be written.
+use crate::parts::ROOM;
+ghost use mathlib.Core.Path.{_≡_};
+ghost use lib.ListN.{length};
+use crate::parts::is_front;
+use crate::parts::load;
+use crate::parts::load_bytes;
+use crate::parts::natural;
+use crate::parts::store_bytes;
+use rules::Answer;
+
+// The reader, on bytes that stand one to a word.
+fn read(a: &[i32], y: &mut [i32]) -> Answer {
+    let n = a.len();
+    if n > ROOM {
+        return unknown();
+    }
+    let bytes = load_bytes(a);
+    recipe::read(&bytes[..n], y)
+}
+
+// The writer, into room whose bytes stand one to a word.
+fn write(a: &[i32], y: &mut [i32]) -> Answer {
+    let n = y.len();
+    if n > ROOM {
+        return unknown();
+    }
+    let mut room = load_bytes(y);
+    let r = recipe::write(a, &mut room[..n]);
+    store_bytes(&room, y);
+    r
+}
+
+// The program's text, on bytes that stand one to a word; its answer is the text's length.
+fn program(a: &[i32], y: &mut [i32]) -> Answer {
+    let n = a.len();
+    if n > ROOM {
+        return unknown();
+    }
+    let bytes = load_bytes(a);
+    let mut text = blank_text();
+    let m = session::text_of(&bytes[..n], &mut text);
+    store_bytes(&text, y);
+    Answer::counted(m as u64)
+}
+
+// Room for a text.
+fn blank_text() -> [u8; ROOM]
+    ensures { λ r. ⌜ 20000 ≡ length r ⌝ }
+{
+    [0; ROOM]
+}
+
+// An answer that no case expects.
+fn unknown() -> Answer {
+    Answer::refused(99, 99, 99)
+}
+
+// The calls by their numbers in the stream, of those whose answer is an Answer.
+pub fn answer(call: usize, a: &[i32], b: &[i32], x: &[i32], y: &mut [i32]) -> Answer {
+    if call == 1 {
+        return sheet::check(a);
+    }
+    if call == 2 {
+        return sheet::check_pair(a, b);
+    }
+    if call == 4 {
+        return read(a, y);
+    }
+    if call == 5 {
+        return write(a, y);
+    }
+    if call == 6 {
+        return recipe::built_in(y);
+    }
+    if call == 7 {
+        return line::forward(a, x, y);
+    }
+    if call == 8 {
+        return line::inverse(a, x, y);
+    }
+    if call == 9 {
+        return line::allowance(a, y);
+    }
+    if call == 10 {
+        return rectangle::forward(a, b, x, y);
+    }
+    if call == 11 {
+        return rectangle::inverse(a, b, x, y);
+    }
+    if call == 12 {
+        return rectangle::allowance(a, b, y);
+    }
+    if call == 13 {
+        return program(a, y);
+    }
+    unknown()
+}
+
+// Whether a part is the end of w from a place on. A run sees a part's length and its words: two ends that are alike in both,
+// such as the empty ends of the two sheets, it can't tell apart. The contract of `rest` says which slice the part is of.
+fn is_end(part: &[i32], w: &[i32], start: i32) -> bool {
+    if start < 0 {
+        return false;
+    }
+    let from = natural(start);
+    if from > w.len() {
+        return false;
+    }
+    part.len() == w.len() - from && is_front(&load(part), &w[from..])
+}
+
+// `rest`, whose answer is a part of a slice: which slice, 0 for the column sheet or 1 for the row sheet, and where the part starts.
+pub fn is_rest<'a>(a: &'a [i32], b: &'a [i32], which: i32, start: i32) -> bool {
+    let part = sheet::rest(a, b);
+    if which == 0 {
+        return is_end(part, a, start);
+    }
+    is_end(part, b, start)
+}

@@ -1,0 +1,124 @@
+// Parts of a case: taken, copied, compared. None asks anything of its caller: what isn't there is 0 or empty, and then differs.
+ghost use mathlib.Core.Path.{_≡_};
+ghost use Prim.Native.Nat.{_≤_};
+ghost use lib.ListN.{length};
+use rules::Answer;
+
+// Room for the longest sheet's bytes, for more bytes than the program reads, and for any text that it prints.
+pub const ROOM: usize = 20000;
+
+// The words from a place to another; none where they don't lie so.
+pub fn part(w: &[i32], from: usize, to: usize) -> &[i32] {
+    if from > to {
+        return &w[..0];
+    }
+    if to > w.len() {
+        return &w[..0];
+    }
+    &w[from..to]
+}
+
+// The word at i, or 0 after the end.
+pub fn at(w: &[i32], i: usize) -> i32 {
+    if i >= w.len() {
+        return 0;
+    }
+    w[i]
+}
+
+// A word as a count; 0 below zero.
+pub fn natural(z: i32) -> usize {
+    if z < 0 {
+        return 0;
+    }
+    z as usize
+}
+
+// A word that holds a byte.
+fn byte_of(z: i32) -> u8 {
+    if z < 0 {
+        return 0;
+    }
+    if z > 255 {
+        return 0;
+    }
+    z as u8
+}
+
+fn wide(b: u8) -> i32 {
+    b as i32
+}
+
+// The byte at k as a word, or 0 after the end.
+fn word_at(room: &[u8; ROOM], k: usize) -> i32 {
+    if k >= ROOM {
+        return 0;
+    }
+    wide(room[k])
+}
+
+// How many words fit a room.
+fn fitting(w: &[i32]) -> usize
+    ensures { λ r. ⌜ r ≤ 20000 ⌝ }
+{
+    if w.len() > ROOM {
+        return ROOM;
+    }
+    w.len()
+}
+
+// Words at the front of a room.
+pub fn load(w: &[i32]) -> [i32; ROOM]
+    ensures { λ r. ⌜ 20000 ≡ length r ⌝ }
+{
+    let n = fitting(w);
+    let mut room = [0i32; ROOM];
+    for k in 0..n {
+        room[k] = at(w, k);
+    }
+    room
+}
+
+// Words that hold bytes, at the front of a room.
+pub fn load_bytes(w: &[i32]) -> [u8; ROOM]
+    ensures { λ r. ⌜ 20000 ≡ length r ⌝ }
+{
+    let n = fitting(w);
+    let mut room = [0u8; ROOM];
+    for k in 0..n {
+        room[k] = byte_of(at(w, k));
+    }
+    room
+}
+
+// The bytes at the front of a room, one to a word.
+pub fn store_bytes(room: &[u8; ROOM], w: &mut [i32]) {
+    let n = w.len();
+    for k in 0..n {
+        w[k] = word_at(room, k);
+    }
+}
+
+// Whether those words stand at the front of a room.
+pub fn is_front(room: &[i32; ROOM], those: &[i32]) -> bool {
+    let n = those.len();
+    if n > ROOM {
+        return false;
+    }
+    for k in 0..n {
+        if room[k] != those[k] {
+            return false;
+        }
+    }
+    true
+}
+
+// Whether an answer is the number, side and place of three words.
+pub fn is_answer(r: Answer, number: i32, side: i32, place: i32) -> bool {
+    if number < 0 || side < 0 || place < 0 {
+        return false;
+    }
+    natural(number) == r.number as usize
+        && natural(side) == r.side as usize
+        && natural(place) as u64 == r.place
+}

@@ -1,0 +1,457 @@
+"""Seeded cases with expected answers, as 32-bit little-endian signed words.
+
+Usage: python3 second/cases.py CALLS SEED COUNT > stream
+CALLS is a comma list of call names (or `all`); COUNT cases of each call follow
+one another, so a list of calls gives the streams of its calls end to end.
+With TALLY=1 in the environment the answers are counted on standard error.
+
+A case: call number, lengths of A, B, X, Y; the words of A, B, X, Y; number,
+side, place; the words of Y after the call.
+"""
+
+import os
+import random
+import struct
+import sys
+from collections import Counter, namedtuple
+
+import generate
+import model
+from generate import chance, numbers_of
+
+# A: column sheet or recipe bytes; B: row sheet; X: input block; Y: lent output.
+Case = namedtuple("Case", "a b x y answer after")
+
+# How often a run's sheet is damaged, its lengths are wrong, its pair doesn't
+# match. The rest goes through the factors, a few with the largest sums.
+RUN_DAMAGE = 0.22
+WRONG_LENGTH = 0.12
+MISMATCH = 0.08
+HEAVY = 0.003
+
+
+# ---------------------------------------------------------------------------
+# Calls on sheets
+
+
+def some_sheet(rng, longest, damaged):
+    """A sheet; a share of them is damaged, of which some are valid still."""
+    if longest:
+        return numbers_of(generate.longest_draft(rng))
+    return numbers_of(generate.maybe_damage(rng, generate.some_draft(rng), damaged))
+
+
+def case_check(rng, longest):
+    sheet = some_sheet(rng, longest, 0.55)
+    return Case(sheet, [], [], [], model.check(sheet), [])
+
+
+def pair_for_check(rng, longest):
+    """Matching or not, then for half of the pairs a fault in either or both."""
+    if longest:
+        column, row = generate.longest_pair(rng)
+    elif chance(rng, 0.45):
+        column, row = generate.mismatching_pair(rng)
+    else:
+        column, row = generate.matching_pair(rng)
+    if not longest and chance(rng, 0.5):
+        column, row = generate.damage_pair(rng, column, row)
+    return numbers_of(column), numbers_of(row)
+
+
+def case_pair(rng, longest):
+    col, row = pair_for_check(rng, longest)
+    return Case(col, row, [], [], model.check_pair(col, row), [])
+
+
+def case_rest(rng, longest):
+    col, row = pair_for_check(rng, longest)
+    which, start = model.rest(col, row)
+    return Case(col, row, [], [], (which, 0, start), [])
+
+
+# ---------------------------------------------------------------------------
+# Calls with room
+
+
+def room_length(rng, needed):
+    """Too short, exact or longer."""
+    near = [needed - 1, needed, needed, needed + 1, needed + rng.randint(1, 9)]
+    return max(0, rng.choice(near + [rng.randint(0, needed), 0 if chance(rng, 0.3) else needed]))
+
+
+def bytes_for_read(rng, longest):
+    """Encodings of valid and faulty sheets, and byte strings that are none."""
+    numbers = some_sheet(rng, longest, 0.4)
+    if chance(rng, 0.9):
+        numbers = generate.in_three_groups(numbers)
+    if not longest and chance(rng, 0.25):
+        return generate.damage_bytes(rng, numbers)
+    return model.encode(numbers)
+
+
+def count_of_numbers(data):
+    """How many numbers the bytes seem to hold: bytes without the top bit."""
+    return sum(1 for byte in data if byte < 128)
+
+
+def case_read(rng, longest):
+    data = bytes_for_read(rng, longest)
+    room = generate.lent(rng, room_length(rng, count_of_numbers(data)))
+    answer, after = model.read(data, room)
+    return Case(data, [], [], room, answer, after)
+
+
+def case_write(rng, longest):
+    sheet = some_sheet(rng, longest, 0.35)
+    needed = len(model.encode(sheet))
+    room = [rng.randrange(256) for _ in range(room_length(rng, needed))]
+    answer, after = model.write(sheet, room)
+    return Case(sheet, [], [], room, answer, after)
+
+
+def case_built_in(rng, longest):
+    length = 4386 if longest else rng.choice([0, 44, 45, 46, rng.randint(0, 100)])
+    room = generate.lent(rng, length)
+    answer, after = model.built_in(room)
+    return Case([], [], [], room, answer, after)
+
+
+# ---------------------------------------------------------------------------
+# Runs and allowances of a line
+
+
+def wrong_length(rng, right, orders):
+    """A length near the right one, or one got from the orders in another way."""
+    wrong = [0, right - 1, right + 1, 2 * right, sum(orders), orders[0], rng.randint(0, 20)]
+    return max(0, rng.choice([length for length in wrong if length != right]))
+
+
+def block_lengths(rng, orders):
+    """Lengths of input and output: right, or one wrong, or both."""
+    right = 1
+    for n in orders:
+        right *= n
+    if not chance(rng, WRONG_LENGTH):
+        return right, right
+    way = rng.randrange(4)
+    for_input = wrong_length(rng, right, orders) if way != 1 else right
+    for_output = wrong_length(rng, right, orders) if way != 0 else right
+    return for_input, for_input if way == 3 else for_output
+
+
+def line_draft(rng, longest):
+    if longest:
+        return generate.longest_draft(rng, generate.faint_entry)
+    if chance(rng, 0.06):
+        return generate.steep_draft(rng)
+    return generate.some_draft(rng)
+
+
+def forward_input(rng, sheet, length):
+    """A block for a forward run of a valid sheet."""
+    if length == sheet[0] and chance(rng, 0.3):
+        return generate.line_block_to_edge(rng, sheet, False)
+    return generate.some_block(rng, length)
+
+
+def inverse_input(rng, sheet, length):
+    """Real coefficients, a block that meets the bound, or any block."""
+    if length == sheet[0] and chance(rng, 0.45):
+        answer, y = model.line_forward(sheet, generate.some_block(rng, length), [0] * length)
+        if answer[0] == 0:
+            return y
+    if length == sheet[0] and chance(rng, 0.3):
+        return generate.line_block_to_edge(rng, sheet, True)
+    return generate.some_block(rng, length)
+
+
+def case_line_run(rng, longest, make_input, call):
+    draft = line_draft(rng, longest)
+    sheet = numbers_of(draft)
+    x_length, y_length = (16, 16) if longest else block_lengths(rng, [sheet[0]])
+    x = [generate.small(rng) for _ in range(16)] if longest else make_input(rng, sheet, x_length)
+    if not longest:
+        sheet = numbers_of(generate.maybe_damage(rng, draft, RUN_DAMAGE))
+    y = generate.lent(rng, y_length)
+    answer, after = call(sheet, x, y)
+    return Case(sheet, [], x, y, answer, after)
+
+
+def case_line_forward(rng, longest):
+    return case_line_run(rng, longest, forward_input, model.line_forward)
+
+
+def case_line_inverse(rng, longest):
+    return case_line_run(rng, longest, inverse_input, model.line_inverse)
+
+
+def allowance_sheet(rng, longest):
+    """Some pass the limit at a late stage, a few by one unit only."""
+    if longest:
+        return numbers_of(generate.longest_draft(rng))
+    u = rng.random()
+    if u < 0.03:
+        return generate.limit_sheet(rng)
+    if u < 0.12:
+        return numbers_of(generate.steep_draft(rng))
+    return numbers_of(generate.maybe_damage(rng, generate.some_draft(rng), RUN_DAMAGE))
+
+
+def case_line_allowance(rng, longest):
+    sheet = allowance_sheet(rng, longest)
+    order = sheet[0] if sheet and 1 <= sheet[0] <= 16 else rng.randint(1, 16)
+    out = generate.lent(rng, order if longest else block_lengths(rng, [order])[1])
+    answer, after = model.line_allowance(sheet, out)
+    return Case(sheet, [], [], out, answer, after)
+
+
+# ---------------------------------------------------------------------------
+# Joint runs and allowances
+
+
+def joint_drafts(rng, longest):
+    if longest:
+        return generate.longest_pair(rng, generate.faint_entry)
+    u = rng.random()
+    if u < MISMATCH:
+        return generate.mismatching_pair(rng)
+    if u < MISMATCH + 0.06:
+        return generate.steep_pair(rng)
+    if u < MISMATCH + 0.06 + HEAVY:
+        return generate.heavy_pair(rng)
+    return generate.matching_pair(rng)
+
+
+def fits_pair(col, row, length):
+    """Whether a run of that length goes through the factors at all."""
+    return length == col[0] * row[0] and model.check_pair(col, row)[0] == 0
+
+
+def joint_forward_input(rng, col, row, length):
+    if fits_pair(col, row, length) and chance(rng, 0.3):
+        return generate.joint_block_to_edge(rng, col, row, False)
+    return generate.some_block(rng, length)
+
+
+def joint_inverse_input(rng, col, row, length):
+    """Real coefficients, a block that meets the bound, or any block."""
+    if fits_pair(col, row, length) and chance(rng, 0.45):
+        x = generate.some_block(rng, length)
+        answer, y = model.joint_forward(col, row, x, [0] * length)
+        if answer[0] == 0:
+            return y
+    if fits_pair(col, row, length) and chance(rng, 0.3):
+        return generate.joint_block_to_edge(rng, col, row, True)
+    return generate.some_block(rng, length)
+
+
+def case_heavy_run(rng, call):
+    """The largest sums that a stage can have."""
+    column, row = generate.heavy_pair(rng)
+    col_sheet, row_sheet = numbers_of(column), numbers_of(row)
+    x = [rng.choice([1, -1]) * model.SAMPLE_LIMIT] * (col_sheet[0] * row_sheet[0])
+    y = generate.lent(rng, len(x))
+    answer, after = call(col_sheet, row_sheet, x, y)
+    return Case(col_sheet, row_sheet, x, y, answer, after)
+
+
+def case_joint_run(rng, longest, make_input, call):
+    if not longest and chance(rng, HEAVY):
+        return case_heavy_run(rng, call)
+    column, row = joint_drafts(rng, longest)
+    col_sheet, row_sheet = numbers_of(column), numbers_of(row)
+    if longest:
+        x, y_length = [generate.small(rng) for _ in range(256)], 256
+    else:
+        x_length, y_length = block_lengths(rng, [col_sheet[0], row_sheet[0]])
+        x = make_input(rng, col_sheet, row_sheet, x_length)
+        if chance(rng, RUN_DAMAGE):
+            column, row = generate.damage_pair(rng, column, row)
+            col_sheet, row_sheet = numbers_of(column), numbers_of(row)
+    y = generate.lent(rng, y_length)
+    answer, after = call(col_sheet, row_sheet, x, y)
+    return Case(col_sheet, row_sheet, x, y, answer, after)
+
+
+def case_joint_forward(rng, longest):
+    return case_joint_run(rng, longest, joint_forward_input, model.joint_forward)
+
+
+def case_joint_inverse(rng, longest):
+    return case_joint_run(rng, longest, joint_inverse_input, model.joint_inverse)
+
+
+def limit_pair(rng):
+    """A line sheet at the limit of allowance beside a sheet of order 1 with
+    the same kinds: the joint rule then gives the line's allowances."""
+    sheet = generate.limit_sheet(rng)
+    one = generate.sheet_of(1, [generate.single_row(0, 1, [0])] * sheet[1])
+    return (sheet, one) if chance(rng, 0.5) else (one, sheet)
+
+
+def case_joint_allowance(rng, longest):
+    if not longest and chance(rng, 0.03):
+        col, row = limit_pair(rng)
+        orders = [col[0], row[0]]
+    else:
+        column, row_draft = joint_drafts(rng, longest)
+        orders = [column[0][1], row_draft[0][1]]
+        if not longest and chance(rng, RUN_DAMAGE):
+            column, row_draft = generate.damage_pair(rng, column, row_draft)
+        col, row = numbers_of(column), numbers_of(row_draft)
+    out = generate.lent(rng, 256 if longest else block_lengths(rng, orders)[1])
+    answer, after = model.joint_allowance(col, row, out)
+    return Case(col, row, [], out, answer, after)
+
+
+# ---------------------------------------------------------------------------
+# Program
+
+
+def program_block(rng, sheet, length):
+    """A block that three groups can hold; runs reach the bound by growth."""
+    if chance(rng, 0.15):
+        return [rng.choice([-1048576, 1048575, 1000000]) for _ in range(length)]
+    return generate.in_three_groups(forward_input(rng, sheet, length))
+
+
+def program_to_edge(rng):
+    """A sheet and a block of three groups that meets the very bound: four
+    entries of 4 on numbers near 1048575, and the last number fills the gap."""
+    sign = rng.choice([1, -1])
+    block = [sign * rng.randint(1040000, 1048575) for _ in range(4)]
+    wanted = sign * (model.SAMPLE_LIMIT + rng.choice([0, 1]))
+    row = rng.randrange(5)
+    block.insert(row, wanted - 4 * sum(block))
+    return generate.sheet_of(5, [generate.single_row(row, 5, [16384] * 5)]), block
+
+
+def program_count(rng, sheet_length, total):
+    """The count c: mostly right, else negative, past the end, or shifted."""
+    if chance(rng, 0.88):
+        return sheet_length
+    wrong = [-1, 0, total, total + 1, sheet_length - 1, sheet_length + 1, 1048575, -1048576]
+    return rng.choice(wrong)
+
+
+def program_numbers(rng, longest):
+    """A count, a sheet, a block."""
+    if longest:
+        sheet = numbers_of(generate.longest_draft(rng, generate.faint_entry))
+        return [len(sheet)] + sheet + [generate.small(rng) for _ in range(16)]
+    draft = generate.steep_draft(rng) if chance(rng, 0.10) else generate.some_draft(rng)
+    sheet = numbers_of(draft)
+    block = program_block(rng, sheet, block_lengths(rng, [sheet[0]])[0])
+    if chance(rng, 0.04):
+        sheet = generate.limit_sheet(rng)
+        block = [generate.tiny(rng) for _ in range(sheet[0])]
+    elif chance(rng, 0.02):
+        sheet, block = program_to_edge(rng)
+    elif chance(rng, RUN_DAMAGE):
+        sheet = generate.in_three_groups(numbers_of(generate.damage(rng, draft)))
+    count = program_count(rng, len(sheet), len(sheet) + len(block))
+    return [count] + sheet + block
+
+
+def full_input(rng):
+    """Just as many bytes as the program reads, or some more."""
+    length = model.PROGRAM_LIMIT + rng.choice([0, 0, 1, 1, 1, rng.randint(2, 40)])
+    start = model.encode(program_numbers(rng, False))
+    filler = rng.choice([[0], [2], [128], [rng.randrange(128)]])
+    return start + filler * (length - len(start))
+
+
+def program_bytes(rng, longest):
+    u = rng.random()
+    if not longest and u < 0.008:
+        return full_input(rng)
+    numbers = program_numbers(rng, longest)
+    if not longest and u < 0.10:
+        return generate.damage_bytes(rng, numbers)
+    return [] if not longest and u < 0.11 else model.encode(numbers)
+
+
+def case_program(rng, longest):
+    data = program_bytes(rng, longest)
+    printed = list(model.program(data).encode("ascii"))
+    return Case(data, [], [], [0] * len(printed), (0, 0, len(printed)), printed)
+
+
+# ---------------------------------------------------------------------------
+# The stream
+
+CALLS = {
+    "check": (1, case_check),
+    "pair": (2, case_pair),
+    "rest": (3, case_rest),
+    "read": (4, case_read),
+    "write": (5, case_write),
+    "built-in": (6, case_built_in),
+    "line-forward": (7, case_line_forward),
+    "line-inverse": (8, case_line_inverse),
+    "line-allowance": (9, case_line_allowance),
+    "joint-forward": (10, case_joint_forward),
+    "joint-inverse": (11, case_joint_inverse),
+    "joint-allowance": (12, case_joint_allowance),
+    "program": (13, case_program),
+}
+
+
+def words_of(call_number, case):
+    """A case in the order of the stream."""
+    lengths = [len(case.a), len(case.b), len(case.x), len(case.y)]
+    before = case.a + case.b + case.x + case.y
+    return [call_number] + lengths + before + list(case.answer) + case.after
+
+
+def packed(words):
+    return struct.pack(f"<{len(words)}i", *words)
+
+
+def cases_of(name, seed, count):
+    """The cases of one call; the longest sheet stands in the middle, once."""
+    rng = random.Random(f"{name} {seed}")
+    make = CALLS[name][1]
+    for turn in range(count):
+        yield make(rng, turn == count // 2)
+
+
+def tally_key(name, case):
+    """What a tally counts: the answer's number; for the program the one printed."""
+    if name != "program":
+        return case.answer[0]
+    lines = bytes(case.after).decode("ascii").splitlines()
+    refused = [line.split()[1] for line in lines if line.startswith("refused")]
+    return int(refused[0]) if refused else 0
+
+
+def print_tally(name, tally, count, size):
+    answers = " ".join(f"{number}:{tally[number]}" for number in sorted(tally))
+    print(f"{name} {count} cases, {size // max(1, count)} bytes a case, {answers}",
+          file=sys.stderr)
+
+
+def write_stream(name, seed, count, out, tallied):
+    tally, size = Counter(), 0
+    for case in cases_of(name, seed, count):
+        size += out.write(packed(words_of(CALLS[name][0], case)))
+        tally[tally_key(name, case)] += 1
+    if tallied:
+        print_tally(name, tally, count, size)
+
+
+def main(arguments):
+    if len(arguments) != 3:
+        sys.exit(__doc__)
+    calls, seed, count = arguments
+    names = list(CALLS) if calls == "all" else calls.split(",")
+    for name in names:
+        if name not in CALLS:
+            sys.exit(f"no call {name}; calls: {','.join(CALLS)}")
+    for name in names:
+        write_stream(name, seed, int(count), sys.stdout.buffer, os.environ.get("TALLY") == "1")
+
+
+if __name__ == "__main__":
+    main(sys.argv[1:])
