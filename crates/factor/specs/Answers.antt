@@ -1,5 +1,5 @@
 -- THE ANSWER OF A RUN, in the turns that the code takes: the sheets and the lengths, then the run itself.
-use mathlib.Core.Bool.{Bool, true, false, cond}
+use mathlib.Core.Bool.{cond}
 use mathlib.Core.List.{List}
 use mathlib.Core.Path.{_≡_, refl, sym, ap, _∙_}
 use Prim.Native.Nat.{ℕ}
@@ -12,7 +12,7 @@ use lib.ListN.{length}
 use Rattle.rules.specs.declared.Answer.{Answer}
 use Rattle.rules.specs.Stages.{Rule, Ran, runAllowance}
 use Rattle.rules.specs.Answers.{accepted, refused, _or-else_}
-use Rattle.rules.specs.Calls.{Reply, Gives, reply, Plan, sized, ranAnswer, ranMemory, runReply, allowanceCall}
+use Rattle.rules.specs.Calls.{Gives, reply, Plan, sized, ranAnswer, ranMemory, runReply, allowanceCall}
 use Rattle.laws.specs.Accepted.{both-fine}
 
 -- 10 by the lengths

@@ -1,11 +1,11 @@
 -- A LOOP OVER THE FACTORS: after t of K stages the run's answer is that of the stages left, t stages later.
 use mathlib.Core.Bool.{Bool, true, false}
 use mathlib.Core.List.{List, [], _∷_}
-use mathlib.Core.Path.{_≡_, refl, sym, ap, _∙_}
-use Prim.Native.Nat.{ℕ, suc, _+_, _<_}
+use mathlib.Core.Path.{_≡_, ap, _∙_}
+use Prim.Native.Nat.{ℕ, _+_, _<_}
 use lib.IntN.{ℤ}
 use Rattle.rules.specs.Stages.{Stage, Ran, done, beyond, later, run}
-use Rattle.rules.specs.Laws.Runs.{loop-start, loop-step, loop-refused, loop-end}
+use Rattle.rules.specs.Laws.Runs.{loop-step, loop-refused, loop-end}
 
 -- K stages one by one, and the lists of those that are left
 pub record Listed (K : ℕ) (stage : ℕ → Stage) (rest : ℕ → List Stage) : Type 0 where

@@ -6,7 +6,7 @@ use Prim.Native.Nat.{ℕ, zero, suc, _+_, _-_, _*_, _%_, _≤_, _<_}
 use native.Mathlib.Omega.{arith}
 use lib.Dec.{eqb}
 use borrow.Author.Tests.{ltb-true}
-use lib.IntN.{ℤ, pos, negsuc, natAbs, _+ℤ_, _-ℤ_, _*ℤ_}
+use lib.IntN.{_+ℤ_, ℤ, pos, negsuc, natAbs, _-ℤ_}
 use lib.ListN.{length, replicate}
 use lib.Signed.{ltZ}
 use Rattle.whole.specs.Diff.{lia, Within}

@@ -4,7 +4,7 @@ use mathlib.Core.Bool.{true, false}
 use mathlib.Core.Path.{_≡_, refl, sym, ap, ap₂, _∙_}
 use Prim.Native.Nat.{ℕ, zero, suc, _+_, _-_, _*_, _/_, _≤_, _<_}
 use native.Mathlib.Decide.{ℕ-discrete, decLt}
-use native.Mathlib.Nat.{le-refl, le-trans}
+use native.Mathlib.Nat.{le-trans}
 use native.Mathlib.Numerals.{add-one}
 use native.Mathlib.Omega.{arith}
 use borrow.Author.Tests.{le-leb, lt-leb, leb-true, leb-false}
@@ -22,6 +22,7 @@ use Rattle.rules.specs.Numbers.{mostEntry, mostAllowance, at, count}
 use Rattle.rules.specs.Sheets.{kindOf, triangle}
 use Rattle.rules.specs.Factors.{signsAt, numbers, above}
 use Rattle.rules.specs.Stages.{fill, inside, putBack}
+use Rattle.rules.specs.Laws.Bounds.{partial}
 use Rattle.rules.specs.Laws.Lists.{inside-yes, inside-no, set-at, set-other}
 use Rattle.laws.specs.Tests.{triangle-twice}
 use Rattle.laws.specs.Accepted.{FactorRead, factor-room}
@@ -52,9 +53,9 @@ pub record RowIn (s : List ℤ) (n : ℕ) (r : Row) (m : ℕ) : Type 0 where
 
 -- the sum of the first j terms
 pub sum-small : {a x : List ℤ} {m : ℕ} → Terms a x m → (i : ℕ) → i ≤ m → Within (16 * (mostEntry * mostAllowance)) (sum i (λ j. at a j *ℤ at x j))
-sum-small t i l =
+sum-small {a} {x} t i l =
     let h = t .few in
-    within-le (omega arith) (sum-within i _ (λ j b. within-* (t .entries j (omega arith)) (t .numbers j (omega arith))))
+    partial 16 i (at a) (at x) (omega arith) (λ j b. t .entries j (omega arith)) (λ j b. t .numbers j (omega arith))
 
 -- ---- how many entries stand before a row
 pub half-triangle : (m : ℕ) → (m * m - m) / 2 ≡ triangle m

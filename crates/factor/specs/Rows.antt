@@ -1,9 +1,9 @@
 -- A ROW'S SUM IS THE SUM ALONG ITS ENTRIES, for every kind that has weights; so is the sum of magnitudes, and the test for multiples.
-use mathlib.Core.Bool.{Bool, true, false, cond}
+use mathlib.Core.Bool.{true, false, cond}
 use mathlib.Core.List.{List}
 use mathlib.Core.Logic.{_≢_}
-use mathlib.Core.Path.{_≡_, refl, sym, ap, ap₂, _∙_}
-use Prim.Native.Nat.{ℕ, zero, suc, _+_, _-_, _≤_, _<_}
+use mathlib.Core.Path.{_≡_, refl, ap, ap₂, _∙_}
+use Prim.Native.Nat.{ℕ, suc, _+_, _-_, _<_}
 use native.Mathlib.Decide.{ℕ-discrete}
 use native.Mathlib.Omega.{arith}
 use borrow.Author.Tests.{eq-eqb, ne-eqb, lt-ltb, le-ltb}
@@ -15,7 +15,7 @@ use Rattle.rules.specs.declared.Kind.{Kind}
 use Rattle.rules.specs.declared.Kind.the-variants.{Permutation, Lower, Upper, Single}
 use Rattle.rules.specs.Numbers.{unit, at, count}
 use Rattle.rules.specs.Sheets.{kindOf, triangle}
-use Rattle.rules.specs.Factors.{Factor, signsAt, above, entriesBefore, factorAt, hasEntry, matrix}
+use Rattle.rules.specs.Factors.{signsAt, above, entriesBefore, factorAt, hasEntry, matrix}
 use Rattle.rules.specs.Stages.{off, weighed}
 use Rattle.factor.specs.declared.Row.{Row}
 use Rattle.factor.specs.Spots.{rowIn, spotBy, spotAt, row, rowBy, rowOf, along}

@@ -21,12 +21,14 @@ use Rattle.rules.specs.declared.Kind.the-variants.{Permutation, Lower, Upper, S
 use Rattle.rules.specs.Numbers.{mostCount, unit, unit², bound, at, count}
 use Rattle.rules.specs.Sheets.{between, unless, faultOf, kindOf}
 use Rattle.rules.specs.Factors.{Factor, numbers, signsAt, entriesBefore, factorAt, factorsFrom, factors, hasEntry, matrix}
-use Rattle.rules.specs.Stages.{Rule, R, fill, inside, Stage, move, weigh, off, weighed, forward, Ran, later, run, runForward}
+use Rattle.rules.specs.Stages.{Rule, R, inside, Stage, move, weigh, off, weighed, forward, Ran, later, run, runForward}
 use Rattle.rules.specs.Shapes.{order, stageOf, lineStage, lineStages, jointSource, jointSign, jointWeight, jointStage, jointStages}
 use Rattle.rules.specs.Answers.{accepted, further, start, matching}
 use Rattle.rules.specs.Laws.Good.{AllMatch}
+use Rattle.rules.specs.Laws.Kinds.{by-kind, stage-moves, stage-weighs}
+use Rattle.rules.specs.Laws.Lists.{fill-same}
 use Rattle.laws.specs.Readers.{Seen, one-fine}
-use Rattle.laws.specs.Accepted.{Run, run-of, Weights, entriesOf, never, BodyRead, FactorRead, further-first, further-add, further-least, Each, each-rest, each-more, Headed, Accepted, accepted-order, accepted-count}
+use Rattle.laws.specs.Accepted.{Run, run-of, Weights, entriesOf, BodyRead, FactorRead, further-first, further-add, further-least, Each, each-rest, each-more, Headed, Accepted, accepted-order, accepted-count}
 use Rattle.laws.specs.Prefix.{Moved, plain, place, Alike, fault-alike}
 use Rattle.laws.specs.Sound.{entry-inside, entry-kind, factors-length, factors-split, counts-agree, kinds-agree, matching-of}
 
@@ -281,11 +283,6 @@ module _ {s : List ℤ} (whole : Accepted s) (f k : ℕ) (some : 0 < k) (inside 
       let e = cut-carried .end in
       record { head = cut-headed; each = cut-carried .each; end = omega arith }
 
-  -- it has the order, the count and the factors that were meant
-  pub cut-order : at (cut s f k) 0 ≡ at s 0
-  unfolding cut
-  cut-order = refl
-
   pub cut-count : at (cut s f k) 1 ≡ pos k
   unfolding cut
   cut-count = refl
@@ -343,11 +340,6 @@ module _ {s : List ℤ} (whole : Accepted s) (f : ℕ) (some : 0 < f) (not-all :
       (same-append (cut-same whole 0 f some (omega arith)) (cut-same whole f (count s 1 - f) (omega arith) (omega arith)))
 
 -- ---- a forward run does not tell the same factors apart
-fill-same :
-    (n : ℕ) (f g : ℕ → ℤ) (v : List ℤ) → ((e : ℕ) → e < n → f e ≡ g e) → fill n f v ≡ fill n g v
-unfolding fill
-fill-same zero f g v h = refl
-fill-same (suc n) f g v h = rw (fill-same n f g v (λ e l. h e (omega arith)), h n (omega arith))
 
 module _ (rule : Rule) (N : ℕ) (v : List ℤ) where
   move-same :
@@ -367,17 +359,6 @@ module _ (rule : Rule) (N : ℕ) (v : List ℤ) where
       (ap (λ (x : ℤ). (c e *ℤ at v e) +ℤ R rule S x)
       (sum-cong N _ _ (λ k m. ap (λ (x : ℤ). cond (eqb e k) (pos 0) x *ℤ at v k) (g e k l m)))))
 
-  by-kind :
-      (kind : Kind) (m w x y : Stage) →
-      (kind ≡ Permutation → forward rule N m v ≡ forward rule N x v) →
-      (kind ≢ Permutation → forward rule N w v ≡ forward rule N y v) →
-      forward rule N (stageOf kind m w) v ≡ forward rule N (stageOf kind x y) v
-  unfolding stageOf
-  by-kind Permutation m w x y h g = h refl
-  by-kind Lower m w x y h g = g (λ e. never (cc))
-  by-kind Upper m w x y h g = g (λ e. never (cc))
-  by-kind Single m w x y h g = g (λ e. never (cc))
-
   -- a factor is a move or a weighing by its kind
   stage-same :
       {kind other : Kind} (m w x y : Stage) → kind ≡ other →
@@ -386,7 +367,9 @@ module _ (rule : Rule) (N : ℕ) (v : List ℤ) where
       forward rule N (stageOf kind m w) v ≡ forward rule N (stageOf other x y) v
   stage-same {kind} {other} m w x y e h g =
       subst (λ (k : Kind). forward rule N (stageOf kind m w) v ≡ forward rule N (stageOf k x y) v) e
-      (by-kind kind m w x y h g)
+      (by-kind (λ s. forward rule N s v ≡ forward rule N (stageOf kind x y) v) kind m w
+      (λ q. h q ∙ sym (ap (λ (t : Stage). forward rule N t v) (stage-moves kind x y q)))
+      (λ q. g q ∙ sym (ap (λ (t : Stage). forward rule N t v) (stage-weighs kind x y q))))
 
 matrix-same :
     {n : ℕ} {f g : Factor} → SameFactor n f g → f .kind ≢ Permutation → (m k : ℕ) → m < n → k < n →

@@ -86,9 +86,6 @@ module _ {s : List ℤ} {n i : ℕ} (f : FactorRead s n i) where
   abbrev kind : Kind
   kind = kindOf (count s i)
 
-  pub place-seen : kind ≡ Permutation → (m : ℕ) → m < n → Seen s (Place n (i + 1)) (i + 1 + m)
-  place-seen e m l = f .body .places e .each m l
-
   pub sign-seen : kind ≢ Permutation → (m : ℕ) → m < n → Seen s Sign (signsAt kind i + m)
   sign-seen e m l = f .body .weights e .signs .each m l
 

@@ -1,23 +1,22 @@
 -- HOW THE CALLS OF A LINE END: the run of the block in its array, and what is written, is the run of the lent numbers.
-use mathlib.Core.Bool.{Bool, true, false}
+use mathlib.Core.Bool.{true, false}
 use mathlib.Core.List.{List, _++_, reverse}
-use mathlib.Core.Path.{_≡_, refl, sym, ap, _∙_}
+use mathlib.Core.Path.{_≡_, sym, _∙_}
 use Prim.Native.Nat.{ℕ, _+_, _-_, _≤_, _<_}
 use native.Mathlib.Decide.{decLt}
 use native.Mathlib.Omega.{arith}
 use lib.IntN.{ℤ, pos}
 use lib.ListN.{length, replicate, List·getD-append, replicate-append-replicate}
-use lib.Seq.{getD-append-add}
 use Rattle.whole.specs.Diff.{Within}
-use Rattle.rules.specs.Numbers.{bound, mostAllowance, mostOrder, at, count}
+use Rattle.rules.specs.Numbers.{bound, mostAllowance, at, count}
 use Rattle.rules.specs.Factors.{factors}
-use Rattle.rules.specs.Stages.{Stage, nearest, inside, allow, Ran, done, beyond, run, runForward, runInverse, runAllowance}
+use Rattle.rules.specs.Stages.{Stage, nearest, inside, allow, beyond, run, runForward, runInverse, runAllowance}
 use Rattle.rules.specs.Shapes.{lineStages}
 use Rattle.rules.specs.Answers.{checked}
 use Rattle.rules.specs.Calls.{reply, line, ranAnswer, ranMemory}
 use Rattle.rules.specs.Laws.Good.{AllGood}
 use Rattle.rules.specs.Laws.Lists.{inside-at}
-use Rattle.rules.specs.Laws.Pad.{padded, forward-padded, inverse-padded, allowance-padded}
+use Rattle.rules.specs.Laws.Pad.{forward-padded, inverse-padded, allowance-padded}
 use Rattle.rules.specs.Laws.Runs.{loop-start, loop-refused}
 use Rattle.laws.specs.Accepted.{accepted-read, accepted-order}
 use Rattle.laws.specs.Plans.{line-plan, forward-length, inverse-length, allowance-length}

@@ -1,58 +1,32 @@
 -- ONE FACTOR OF A LINE, as the code goes through it, is the document's stage: applied, undone, and for allowances.
-use mathlib.Core.Bool.{Bool, true, false, cond}
+use mathlib.Core.Bool.{Bool, true, cond}
 use mathlib.Core.List.{List}
 use mathlib.Core.Logic.{_≢_}
 use mathlib.Core.Path.{_≡_, refl, sym, ap, ap₂, _∙_, subst}
-use Prim.Native.Nat.{ℕ, zero, suc, _+_, _-_, _≤_, _<_}
+use Prim.Native.Nat.{ℕ, _+_, _≤_, _<_}
 use native.Mathlib.Omega.{arith}
-use lib.IntN.{ℤ, pos, natAbs, _+ℤ_, _-ℤ_, _*ℤ_}
-use lib.ListN.{length, set}
+use lib.IntN.{ℤ, pos, natAbs, _+ℤ_}
+use lib.ListN.{length}
 use Rattle.rules.specs.declared.Kind.{Kind}
-use Rattle.rules.specs.declared.Kind.the-variants.{Permutation, Lower, Upper, Single}
-use Rattle.rules.specs.Numbers.{unit, mostOrder, at, count}
+use Rattle.rules.specs.declared.Kind.the-variants.{Permutation, Single}
+use Rattle.rules.specs.Numbers.{unit, at, count}
 use Rattle.rules.specs.Sheets.{kindOf}
 use Rattle.rules.specs.Factors.{Factor, signsAt, factorAt, matrix}
-use Rattle.rules.specs.Stages.{Stage, move, weigh, nearest, R, ceiling, share, fill, off, weighed, multiples, putBack, forward, recover, undo, allow}
-use Rattle.rules.specs.Shapes.{order, inRow, stageOf, lineStage}
-use Rattle.rules.specs.Laws.Good.{Good, weighs, Recovers, Sound}
-use Rattle.rules.specs.Laws.Kinds.{line-good}
-use Rattle.laws.specs.Accepted.{FactorRead, row-is}
+use Rattle.rules.specs.Stages.{Stage, move, weigh, nearest, R, ceiling, share, fill, off, weighed, putBack, forward, undo, allow}
+use Rattle.rules.specs.Shapes.{order, inRow, lineStage}
+use Rattle.rules.specs.Laws.Good.{Good, good-recovers}
+use Rattle.rules.specs.Laws.Kinds.{line-good, stage-moves, stage-weighs}
+use Rattle.rules.specs.Laws.Lists.{fill-same, put-same}
+use Rattle.laws.specs.Accepted.{FactorRead}
 use Rattle.laws.specs.Sound.{factor-sound}
 use Rattle.factor.specs.declared.Spot.{Spot}
-use Rattle.factor.specs.Spots.{rowIn, spotBy, spotAt, rowOf, along, placeOf}
+use Rattle.factor.specs.Spots.{rowIn, spotBy, spotAt}
 use Rattle.factor.specs.Rows.{row-sum}
 use Rattle.factor.specs.Wholes.{row-whole}
-use Rattle.factor.specs.Magnitudes.{whole, sizeAt}
 use Rattle.factor.specs.Turns.{places-permute, later-blind}
-use Rattle.factor.specs.Walks.{walk, walk-undoes}
+use Rattle.factor.specs.Walks.{walk-undoes}
 use Rattle.factor.specs.Reach.{Numbers, numbers-inside}
 use Rattle.line.specs.Steps.{stepped, nudge, outAt, backAt, allowAt, walkLine}
-
--- two lists filled with the same numbers
-pub fill-same : (n : ℕ) (f g : ℕ → ℤ) (v : List ℤ) → ((e : ℕ) → e < n → f e ≡ g e) → fill n f v ≡ fill n g v
-unfolding fill
-fill-same zero f g v h = refl
-fill-same (suc n) f g v h = rw (fill-same n f g v (λ e l. h e (omega arith)), h n (omega arith))
-
-pub put-same : (n : ℕ) (p q : ℕ → ℕ) (v : List ℤ) → ((e : ℕ) → p e ≡ q e) → putBack n p v ≡ putBack n q v
-unfolding putBack
-put-same zero p q v h = refl
-put-same (suc n) p q v h = rw (put-same n p q v h, h n)
-
--- a stage by its kind
-pub stage-weighs : (kind : Kind) (a b : Stage) → kind ≢ Permutation → stageOf kind a b ≡ b
-unfolding stageOf
-stage-weighs Permutation a b q = absurd (q refl)
-stage-weighs Lower a b q = refl
-stage-weighs Upper a b q = refl
-stage-weighs Single a b q = refl
-
-pub stage-moves : (kind : Kind) (a b : Stage) → kind ≡ Permutation → stageOf kind a b ≡ a
-unfolding stageOf
-stage-moves kind a b q = rw q
-
-good-recovers : {N S : ℕ} {d : ℕ → ℤ} {w : ℕ → ℕ → ℤ} {o : List ℕ} → Good N (weigh S d w o) → Recovers N d w o
-good-recovers (weighs b h) = h
 
 module _ (s : List ℤ) (n i : ℕ) where
   abbrev F : Factor

@@ -2,16 +2,14 @@
 use mathlib.Core.Bool.{Bool, true, false, cond}
 use mathlib.Core.List.{List, [], _∷_, _++_, reverse, reverse-append}
 use mathlib.Core.Path.{_≡_, refl, sym, ap, _∙_}
-use Prim.Native.Nat.{ℕ, zero, suc, _+_, _-_, _≤_, _<_}
+use Prim.Native.Nat.{ℕ, suc, _+_, _-_, _<_}
 use native.Mathlib.Nat.{sub-self}
 use native.Mathlib.Omega.{arith}
 use lib.IntN.{ℤ}
-use Rattle.rules.specs.Numbers.{count}
-use Rattle.rules.specs.Sheets.{kindOf}
-use Rattle.rules.specs.Factors.{Factor, numbers, factorAt, factorsFrom}
+use Rattle.rules.specs.Factors.{factorAt, factorsFrom}
 use Rattle.rules.specs.Stages.{Stage, Ran, done, beyond, inside}
 use Rattle.rules.specs.Shapes.{lineStage, lineStages}
-use Rattle.rules.specs.Answers.{further, start}
+use Rattle.rules.specs.Answers.{further}
 use Rattle.rules.specs.Laws.Cuts.{lines-append}
 use Rattle.laws.specs.Accepted.{further-next}
 use Rattle.laws.specs.Sound.{factors-split}

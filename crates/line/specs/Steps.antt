@@ -1,11 +1,8 @@
 -- ONE FACTOR OF A LINE as the code goes through it: the sums along the entries of a row, and the order in which it recovers elements.
-use mathlib.Core.Bool.{Bool, true, false, cond}
+use mathlib.Core.Bool.{cond}
 use mathlib.Core.List.{List}
-use Prim.Native.Nat.{ℕ, suc, _+_, _-_}
-use lib.Dec.{ltb}
+use Prim.Native.Nat.{ℕ, _+_}
 use lib.IntN.{ℤ, pos, _+ℤ_, _-ℤ_, _*ℤ_}
-use Rattle.rules.specs.declared.Kind.{Kind}
-use Rattle.rules.specs.declared.Kind.the-variants.{Permutation, Lower, Upper, Single}
 use Rattle.rules.specs.Numbers.{unit, at}
 use Rattle.rules.specs.Stages.{nearest, R, share, ceiling, inside}
 use Rattle.factor.specs.declared.Spot.{Spot}

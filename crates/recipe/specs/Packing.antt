@@ -11,8 +11,8 @@ use lib.Seq.{drop-append-seam, getD-drop}
 use Rattle.rules.specs.Numbers.{at}
 use Rattle.rules.specs.Recipes.{code, written, spelt, group, groups, number, packed, unpack, left, numbersOf, leftOf}
 use Rattle.recipe.specs.Codes.{Codable, value-code}
-use Rattle.recipe.specs.Spelling.{Bytes, rest-bytes, no-bytes, more-bytes}
-use Rattle.recipe.specs.Spelling.{spell-least, written-bytes, read-written, written-read}
+use Rattle.recipe.specs.Spelling.{Bytes}
+use Rattle.recipe.specs.Spelling.{spell-least, read-written, written-read}
 
 -- every number of a list has at most three groups
 pub record Codables (s : List ℤ) : Type 0 where
@@ -65,16 +65,6 @@ packed-long (v ∷ s) = let a = packed-long s in let b = spell-least (code v) in
 -- the bytes of a sheet are read as that sheet, with nothing left
 pub read-packed : (s : List ℤ) → Codables s → (numbersOf (packed s) ≡ s) × (leftOf (packed s) ≡ [])
 read-packed s h = unpack-packed (length (packed s)) s h (packed-long s)
-
--- what is written are bytes
-append-bytes : (k : List ℕ) {l : List ℕ} → Bytes k → Bytes l → Bytes (k ++ l)
-append-bytes [] h b = b
-append-bytes (x ∷ k) h b = more-bytes (h .each 0) (append-bytes k (rest-bytes h) b)
-
-pub packed-bytes : (s : List ℤ) → Codables s → Bytes (packed s)
-unfolding packed
-packed-bytes [] h = no-bytes
-packed-bytes (v ∷ s) h = append-bytes (written v) (written-bytes v (h .each 0)) (packed-bytes s (rest-codables h))
 
 drop-bytes : (n : ℕ) {l : List ℕ} → Bytes l → Bytes (drop n l)
 drop-bytes n {l} h = record { each = λ i. rw (getD-drop n l i 0) (h .each (n + i)) }

@@ -3,22 +3,22 @@ use mathlib.Core.Bool.{Bool, true, false, cond}
 use mathlib.Core.List.{List}
 use mathlib.Core.Logic.{_≢_, _⊎_, inl, inr}
 use mathlib.Core.Path.{_≡_, refl, sym, ap, ap₂, _∙_, subst}
-use Prim.Native.Nat.{ℕ, zero, suc, _+_, _-_, _*_, _/_, _%_, _≤_, _<_}
+use Prim.Native.Nat.{ℕ, _+_, _*_, _/_, _%_, _≤_, _<_}
 use native.Mathlib.Nat as NatL
 use native.Mathlib.Omega.{arith}
 use lib.IntN.{ℤ, pos, natAbs, _+ℤ_, _-ℤ_, _*ℤ_, zero-*ℤ, *ℤ-zero}
 use lib.ListN.{length, replicate}
 use Rattle.whole.specs.Sum.{sum, sum-cong}
 use Rattle.rules.specs.declared.Kind.{Kind}
-use Rattle.rules.specs.declared.Kind.the-variants.{Permutation, Lower, Upper, Single}
+use Rattle.rules.specs.declared.Kind.the-variants.{Permutation}
 use Rattle.rules.specs.Numbers.{unit², mostOrder, at, count}
 use Rattle.rules.specs.Sheets.{kindOf}
 use Rattle.rules.specs.Factors.{Factor, signsAt, factorAt, matrix}
 use Rattle.rules.specs.Stages.{Stage, move, weigh, nearest, R, ceiling, share, fill, off, weighed, multiples, putBack, forward, undo, allow}
-use Rattle.rules.specs.Shapes.{order, stageOf, jointSource, jointSign, jointWeight, jointShared, jointStage}
-use Rattle.rules.specs.Laws.Good.{Permutes, Good, weighs, Recovers}
-use Rattle.rules.specs.Laws.Kinds.{joint-good, joint-signs}
-use Rattle.rules.specs.Laws.Lists.{fill-at}
+use Rattle.rules.specs.Shapes.{order, jointSource, jointSign, jointWeight, jointShared, jointStage}
+use Rattle.rules.specs.Laws.Good.{Permutes, Good, good-recovers}
+use Rattle.rules.specs.Laws.Kinds.{joint-good, joint-signs, stage-moves, stage-weighs}
+use Rattle.rules.specs.Laws.Lists.{fill-at, fill-same, put-same}
 use Rattle.rules.specs.Laws.Rect.{row-below, col-below, row-of, col-of, joint-sum, joint-abs-sum}
 use Rattle.laws.specs.Accepted.{FactorRead}
 use Rattle.laws.specs.Sound.{factor-sound}
@@ -35,31 +35,6 @@ use Rattle.rectangle.specs.Multiples.{joint-whole}
 use Rattle.rectangle.specs.Steps.{stepped, sourceOf}
 use Rattle.rectangle.specs.Weights.{own-there, across-row, size-there, sizes-row-is}
 use Rattle.rectangle.specs.Order.{pair-permutes, pairPlace, earlier}
-
--- ---- lists and stages by their kind
-pub fill-same : (n : ℕ) (f g : ℕ → ℤ) (v : List ℤ) → ((e : ℕ) → e < n → f e ≡ g e) → fill n f v ≡ fill n g v
-unfolding fill
-fill-same zero f g v h = refl
-fill-same (suc n) f g v h = rw (fill-same n f g v (λ e l. h e (omega arith)), h n (omega arith))
-
-pub put-same : (n : ℕ) (p q : ℕ → ℕ) (v : List ℤ) → ((e : ℕ) → p e ≡ q e) → putBack n p v ≡ putBack n q v
-unfolding putBack
-put-same zero p q v h = refl
-put-same (suc n) p q v h = rw (put-same n p q v h, h n)
-
-pub stage-weighs : (kind : Kind) (a b : Stage) → kind ≢ Permutation → stageOf kind a b ≡ b
-unfolding stageOf
-stage-weighs Permutation a b q = absurd (q refl)
-stage-weighs Lower a b q = refl
-stage-weighs Upper a b q = refl
-stage-weighs Single a b q = refl
-
-pub stage-moves : (kind : Kind) (a b : Stage) → kind ≡ Permutation → stageOf kind a b ≡ a
-unfolding stageOf
-stage-moves kind a b q = rw q
-
-good-recovers : {N S : ℕ} {d : ℕ → ℤ} {w : ℕ → ℕ → ℤ} {o : List ℕ} → Good N (weigh S d w o) → Recovers N d w o
-good-recovers (weighs b h) = h
 
 -- ---- element by element
 module _ (c r : List ℤ) (n1 n2 a b : ℕ) where

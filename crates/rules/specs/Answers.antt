@@ -1,5 +1,5 @@
 -- "WHAT COMES BACK" of document 01: the answers, and those of the calls that only look at sheets.
-use mathlib.Core.Bool.{Bool, true, false, not, cond}
+use mathlib.Core.Bool.{Bool, not, cond}
 use mathlib.Core.List.{List}
 use mathlib.Core.Path.{_≡_}
 use Prim.Native.Nat.{ℕ, zero, suc, _+_, _*_, min}

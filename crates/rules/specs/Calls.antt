@@ -1,5 +1,5 @@
 -- "WHAT COMES BACK" of document 01: the calls that fill a lent slice. Each gives an answer, and what the slice holds then.
-use mathlib.Core.Bool.{Bool, true, false, cond}
+use mathlib.Core.Bool.{cond}
 use mathlib.Core.List.{List, [], _∷_, _++_}
 use mathlib.Core.Path.{_≡_}
 use Prim.Native.Nat.{ℕ, _-_, _*_}

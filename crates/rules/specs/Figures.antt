@@ -6,13 +6,13 @@ use lib.IntN.{ℤ, pos, negℤ}
 use Rattle.whole.specs.Sum.{sum}
 use Rattle.rules.specs.declared.Answer.{Answer}
 use Rattle.rules.specs.declared.Kind.{Kind}
-use Rattle.rules.specs.declared.Kind.the-variants.{Permutation, Lower, Upper, Single}
+use Rattle.rules.specs.declared.Kind.the-variants.{Lower, Upper, Single}
 use Rattle.rules.specs.Sheets.{go, times, among, faultOf, one, kindOf, triangle, weights, body, factor, closed, head, reading}
 use Rattle.rules.specs.Factors.{Factor, numbers, signsAt, above, entriesBefore, factorAt, factorsFrom, factors, hasEntry, matrix}
 use Rattle.rules.specs.Stages.{nearest, R, share, ceiling, fill, inside, off, weighed, multiples, putBack, forward, recover, undo, allow, later, run, runForward, runInverse, runAllowance}
 use Rattle.rules.specs.Shapes.{those, byTurn, turn, order, inRow, stageOf, lineStage, lineStages, jointSource, jointSign, jointWeight, jointShared, jointStage, jointStages}
 use Rattle.rules.specs.Recipes.{code, value, spell, group, groups, packed, unpack, left, written}
-use Rattle.rules.specs.Answers.{accepted, counted, refused, _or-else_, further, first, matching, pairChecked}
+use Rattle.rules.specs.Answers.{_or-else_, accepted, counted, refused, further, first, matching, pairChecked}
 use Rattle.rules.specs.Calls.{Reply, reply, read, write, builtIn, writeBuiltIn, line, joint, ranAnswer, ranMemory, runReply, forwardCall, inverseCall, allowanceCall}
 
 -- what a case shows, and what document 01 prints for it

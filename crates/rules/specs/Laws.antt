@@ -9,7 +9,6 @@ pub mod Order
 pub mod Pigeon
 pub mod Rect
 pub mod Kinds
-pub mod Rows
 pub mod Cuts
 pub mod Pad
 pub mod Bounds

@@ -1,5 +1,5 @@
 -- "FACTOR RULES IN ONE DIMENSION" and "TWO DIMENSIONS" of document 01: the stages of a line and of a rectangle.
-use mathlib.Core.Bool.{Bool, true, false, cond}
+use mathlib.Core.Bool.{Bool, cond}
 use mathlib.Core.List.{List, [], _∷_, _++_}
 use Prim.Native.Nat.{ℕ, zero, suc, _+_, _-_, _*_, _/_, _%_}
 use lib.Dec.{eqb}

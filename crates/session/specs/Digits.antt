@@ -1,7 +1,7 @@
 -- DIGITS AND LINES: laws for the turns of the loops that write them.
-use mathlib.Core.Bool.{Bool, true, false, cond}
+use mathlib.Core.Bool.{Bool, true, false}
 use mathlib.Core.List.{List, [], _∷_, _++_, append-assoc, append-nil}
-use mathlib.Core.Path.{_≡_, refl, sym, ap, _∙_}
+use mathlib.Core.Path.{_≡_, refl}
 use Prim.Native.Nat.{ℕ, zero, suc, _+_, _/_, _%_, _≤_, _<_, max}
 use native.Mathlib.Numerals.{add-one}
 use native.Mathlib.Omega.{arith}
@@ -12,7 +12,6 @@ use lib.ListN.{length, getD, take}
 use lib.Seq.{take-suc}
 use Rattle.rules.specs.declared.Answer.{Answer}
 use Rattle.rules.specs.Numbers.{at}
-use Rattle.rules.specs.Calls.{Reply}
 use Rattle.session.specs.Program.{powers, power, digitAt, digits, decimal, spaced, lineOf, sayRefused, refusal, replied}
 
 -- ---- every power is 1 at least

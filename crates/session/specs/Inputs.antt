@@ -1,7 +1,7 @@
 -- THE INPUT: what is answered for its count, and its numbers in their parts.
 use mathlib.Core.Bool.{Bool, true, false, cond}
 use mathlib.Core.List.{List, [], _∷_}
-use mathlib.Core.Path.{_≡_, refl, sym, ap, subst, _∙_}
+use mathlib.Core.Path.{_≡_, refl, ap, _∙_}
 use Prim.Native.Nat.{ℕ, zero, suc, _+_, _-_, _≤_, _<_}
 use native.Mathlib.Decide.{decLt}
 use native.Mathlib.Omega.{arith}
@@ -11,13 +11,12 @@ use lib.IntN.{ℤ, pos, negsuc, natAbs}
 use lib.ListN.{length, take, drop, length-drop}
 use lib.Seq.{take-all}
 use lib.Signed.{ltZ, nonNeg, mag}
-use Rattle.rules.specs.declared.Answer.{Answer}
 use Rattle.rules.specs.Numbers.{at}
 use Rattle.rules.specs.Recipes.{value, number, unpack, numbersOf, leftOf}
-use Rattle.rules.specs.Answers.{accepted, refused, _or-else_}
+use Rattle.rules.specs.Answers.{_or-else_, accepted, refused}
 use Rattle.rules.specs.Calls.{over}
 use Rattle.recipe.specs.Filling.{front-is}
-use Rattle.session.specs.Program.{limit, blockAt, blockIn, sheetIn, counts, ran, session, refusal, inputAnswer, printed}
+use Rattle.session.specs.Program.{limit, blockAt, blockIn, sheetIn, counts, ran, session, refusal, printed}
 
 pub at-none : (v : List ℤ) → length v ≡ 0 → at v 0 ≡ pos 0
 at-none [] h = refl

@@ -1,17 +1,12 @@
 -- A SESSION: the lines of its calls one after another, and the parts of its numbers.
-use mathlib.Core.Bool.{Bool, true, false, cond}
-use mathlib.Core.List.{List, [], _∷_, _++_, append-nil}
-use mathlib.Core.Path.{_≡_, refl, sym, ap, _∙_}
-use Prim.Native.Nat.{ℕ, zero, suc, _+_, _-_, _≤_, _<_}
-use native.Mathlib.Omega.{arith}
+use mathlib.Core.List.{List, _++_, append-nil}
+use mathlib.Core.Path.{_≡_, sym, ap}
 use borrow.Author.Tests.{eq-eqb, ne-eqb}
-use lib.IntN.{ℤ, pos, natAbs}
-use lib.ListN.{length, take, drop}
+use lib.IntN.{ℤ}
 use Rattle.rules.specs.declared.Answer.{Answer}
 use Rattle.rules.specs.Stages.{nearest}
 use Rattle.rules.specs.Calls.{Reply, Gives, line, forwardCall, inverseCall, allowanceCall}
 use Rattle.session.specs.Program.{sayForward, sayBack, sayAllow, replied, afterwards, ran}
-use Rattle.session.specs.Writing.{Wrote, wrote-then, wrote-as}
 
 -- ---- the lines of the calls
 abbrev pub gave : Answer → List ℤ → Reply ℤ

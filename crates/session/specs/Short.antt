@@ -1,13 +1,13 @@
 -- THE TEXT IS SHORT: a block has 16 numbers at most, so a session prints few bytes, and a room of 4096 has any text whole.
 use mathlib.Core.Bool.{Bool, true, false, cond}
 use mathlib.Core.List.{List, [], _∷_, _++_}
-use mathlib.Core.Path.{_≡_, refl, sym, ap, _∙_}
-use Prim.Native.Nat.{ℕ, zero, suc, _+_, _*_, _/_, _%_, _≤_, _<_, max}
+use mathlib.Core.Path.{_≡_}
+use Prim.Native.Nat.{ℕ, zero, suc, _+_, _*_, _/_, _%_, _≤_, max}
 use native.Mathlib.Decide.{ℕ-discrete}
 use native.Mathlib.Omega.{arith}
 use borrow.Author.Tests.{eq-eqb, ne-eqb}
 use lib.Dec.{eqb, leb}
-use lib.IntN.{ℤ, pos, natAbs}
+use lib.IntN.{ℤ, natAbs}
 use lib.ListN.{length, length-append}
 use lib.Signed.{nonNeg}
 use Rattle.rules.specs.declared.Answer.{Answer}
@@ -16,7 +16,7 @@ use Rattle.rules.specs.Recipes.{numbersOf}
 use Rattle.rules.specs.Calls.{Reply, line, forwardCall, inverseCall, allowanceCall}
 use Rattle.laws.specs.Accepted.{accepted-read, accepted-order}
 use Rattle.laws.specs.Plans.{forward-gives, forward-accepted, forward-length, inverse-gives, inverse-accepted, inverse-length, allowance-gives, allowance-accepted, allowance-length}
-use Rattle.session.specs.Program.{power, digitAt, digits, decimal, spaced, lineOf, sayForward, sayBack, sayAllow, refusal, replied, afterwards, ran, sheetIn, blockIn, inputAnswer, session, printed}
+use Rattle.session.specs.Program.{power, digitAt, digits, decimal, spaced, lineOf, sayForward, sayBack, sayAllow, refusal, replied, afterwards, ran, inputAnswer, session, printed}
 
 -- ---- numbers and lines
 digit-long : (p n : ℕ) → length (digitAt p n) ≤ 1

@@ -28,9 +28,6 @@ shr-unique s m q lo hi =
     let e = small-multiple m (shrZ s m -ℤ q) (given₂ (shr-lo s m h) hi (simp lia (omega arith))) (given₂ lo (shr-hi s m h) (simp lia (omega arith))) in
     given₁ e (simp lia (omega arith))
 
-pub shr-multiple : (m : ℕ) (q : ℤ) → 0 < m → shrZ (pos m *ℤ q) m ≡ q
-shr-multiple m q h = shr-unique (pos m *ℤ q) m q (simp lia (omega arith)) (simp lia (omega arith))
-
 -- ---- the nearest: off by half of S at most, and exact at a multiple
 pub nearest-near : (S : ℕ) (s : ℤ) → 0 < S → 4096 * natAbs (pos S *ℤ shrZ (s +ℤ pos (S / 2)) S -ℤ s) ≤ 2048 * S
 nearest-near S s h = given₂ (shr-lo (s +ℤ pos (S / 2)) S h) (shr-hi (s +ℤ pos (S / 2)) S h) (simp lia (omega arith))

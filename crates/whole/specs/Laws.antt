@@ -1,13 +1,12 @@
 -- Laws of the whole numbers: products, the order, magnitudes, signs; and `distrib`, which multiplies products out. Assumes nothing.
 use mathlib.Core.Path.{_≡_, refl}
-use mathlib.Core.Logic.{_⊎_, inl, inr, _↔_}
-use Prim.Native.Nat.{ℕ, suc, _+_, _*_, _≤_, _<_}
+use mathlib.Core.Logic.{_⊎_, inl, inr}
+use Prim.Native.Nat.{suc, _+_, _*_, _≤_}
 use native.Mathlib.Nat as NatL
 use native.Mathlib.Omega.{arith}
-use native.Mathlib.Decide.{decLt}
-use lib.IntN.{ℤ, pos, negsuc, negℤ, _+ℤ_, _-ℤ_, _*ℤ_, natAbs}
-use lib.Signed.{_≤ℤ_, _<ℤ_}
-use Rattle.whole.specs.Diff.{lia, zarith, up, dn, le-read}
+use lib.IntN.{ℤ, pos, negsuc, negℤ, _+ℤ_, _*ℤ_, natAbs}
+use lib.Signed.{_≤ℤ_}
+use Rattle.whole.specs.Diff.{lia, zarith, le-read}
 
 -- ---- products. A sum's own laws are `simp lia (omega arith)`, or +ℤ-comm and its like in lib.IntN
 pub mul-comm : (a b : ℤ) → a *ℤ b ≡ b *ℤ a
@@ -38,21 +37,6 @@ pub ruleset distrib = (mul-add, add-mul, neg-mul, mul-neg, mul-assoc, mul-comm, 
 pub le-trans : {a b c : ℤ} → a ≤ℤ b → b ≤ℤ c → a ≤ℤ c
 le-trans {a} {b} {c} h k = simp lia (omega zarith)
 
-pub le-antisymm : {a b : ℤ} → a ≤ℤ b → b ≤ℤ a → a ≡ b
-le-antisymm {a} {b} h k = simp lia (omega zarith)
-
-pub lt-or-le : (a b : ℤ) → (a <ℤ b) ⊎ (b ≤ℤ a)
-lt-or-le a b = go (decLt (up a + dn b) (up b + dn a))
-  where
-    go : Dec (up a + dn b < up b + dn a) → (a <ℤ b) ⊎ (b ≤ℤ a)
-    go (yes h) = inl (simp lia (omega arith))
-    go (no h) = inr (simp lia (omega arith))
-
-pub mul-nonneg : {a b : ℤ} → pos 0 ≤ℤ a → pos 0 ≤ℤ b → pos 0 ≤ℤ (a *ℤ b)
-mul-nonneg {a = pos m} {b = pos n} h k = simp lia (omega arith)
-mul-nonneg {a = pos m} {b = negsuc n} h k = absurd (k .le)
-mul-nonneg {a = negsuc m} {b} h k = absurd (h .le)
-
 pub mul-le-mul-left : {a b : ℤ} (c : ℤ) → pos 0 ≤ℤ c → a ≤ℤ b → (c *ℤ a) ≤ℤ (c *ℤ b)
 mul-le-mul-left {a} {b} (pos n) p h = simp lia (omega (arith, NatL.mul-le-mul-right n (le-read h)))
 mul-le-mul-left {a} {b} (negsuc n) p h = absurd (p .le)
@@ -64,9 +48,6 @@ mul-le-mul-right {a} {b} c p h = rw (mul-comm a c, mul-comm b c) (mul-le-mul-lef
 pub abs-add : (a b : ℤ) → natAbs (a +ℤ b) ≤ natAbs a + natAbs b
 abs-add a b = simp lia (omega arith)
 
-pub abs-sub : (a b : ℤ) → natAbs (a -ℤ b) ≤ natAbs a + natAbs b
-abs-sub a b = simp lia (omega arith)
-
 pub abs-neg : (a : ℤ) → natAbs (negℤ a) ≡ natAbs a
 abs-neg a = simp lia (omega arith)
 
@@ -75,9 +56,6 @@ abs-mul (pos m) (pos n) = refl
 abs-mul (pos m) (negsuc n) = abs-neg (pos (m * suc n))
 abs-mul (negsuc m) (pos n) = abs-neg (pos (suc m * n))
 abs-mul (negsuc m) (negsuc n) = refl
-
-pub abs-le : (z : ℤ) (n : ℕ) → (natAbs z ≤ n) ↔ ((negℤ (pos n) ≤ℤ z) × (z ≤ℤ pos n))
-abs-le z n = simp lia (omega arith)
 
 -- ---- signs: 1 or -1
 abbrev pub Sign : ℤ → Type 0

@@ -2,19 +2,17 @@
 -- read back from its bits: `fits (within-+ h (within-* a x)) tt`. Assumes nothing.
 use mathlib.Core.Path.{_≡_}
 use mathlib.Core.Logic.{inl, inr}
-use Prim.Native.Nat.{ℕ, suc, _+_, _*_, _/_, _^_, _≤_, _<_}
-use native.Mathlib.Nat.{le-trans, lt-of-le-of-lt, mul-le-mul, mul-le-mul-left, mul-le-mul-right, div-le-self}
-use native.Mathlib.Decide.{decLe}
+use Prim.Native.Nat.{ℕ, _+_, _*_, _^_, _≤_, _<_}
+use native.Mathlib.Nat.{le-trans, lt-of-le-of-lt, mul-le-mul, div-le-self}
 use native.Mathlib.Omega.{arith}
 use lib.IntN.{ℤ, pos, negsuc, negℤ, natAbs, _+ℤ_, _-ℤ_, _*ℤ_}
 use lib.Dec.{T, ltb, lit<}
-use lib.Signed.{shrZ, mag-shr, mag}
+use lib.Signed.{shrZ, mag}
 use mir.Syntax.{Width, w32, w64}
 use mir.Val.{SFits, hbits, toZ, ofZ}
 use mir.Facts.{toZ-ofZ}
 use Rattle.whole.specs.Diff.{lia, zarith, Within}
 use Rattle.whole.specs.Laws.{abs-mul, Sign, sign-abs}
-use Rattle.whole.specs.Floor.{nearest-near}
 
 -- ---- bounds
 pub within-le : {A B : ℕ} {z : ℤ} → A ≤ B → Within A z → Within B z
@@ -48,19 +46,6 @@ pub within-shr : {B : ℕ} {z : ℤ} (m : ℕ) → Within B z → Within B (shrZ
 within-shr {z = pos n} m h = record { within = omega (arith, div-le-self n m, h .within) }
 within-shr {z = negsuc n} m h = record { within = omega (arith, div-le-self n m, h .within) }
 
-pub within-nearest : {B : ℕ} {s : ℤ} (S : ℕ) → 0 < S → Within B s → Within B (shrZ (s +ℤ pos (S / 2)) S)
-within-nearest {B} {s} S p h = go (shrZ (s +ℤ pos (S / 2)) S) (nearest-near S s p)
-  where
-    far : (a : ℤ) → natAbs a ≤ natAbs (a -ℤ s) + natAbs s
-    far a = simp lia (omega arith)
-
-    cut : (n : ℕ) → S * n ≤ B + S / 2 → Dec (n ≤ B) → n ≤ B
-    cut n k (yes q) = q
-    cut n k (no q) = let l : suc B ≤ n = omega arith in absurd (omega (arith, mul-le-mul-left S l, mul-le-mul-right B p))
-
-    go : (q : ℤ) → 4096 * natAbs (pos S *ℤ q -ℤ s) ≤ 2048 * S → Within B q
-    go q k = record { within = cut (natAbs q) (omega (arith, far (pos S *ℤ q), abs-mul (pos S) q, h .within)) (decLe (natAbs q) B) }
-
 -- ---- widths
 pub abs-fits : {w : Width} {z : ℤ} → natAbs z < 2 ^ hbits w → SFits w z
 abs-fits {w} {z} = simp lia (omega arith)
@@ -68,14 +53,8 @@ abs-fits {w} {z} = simp lia (omega arith)
 pub fits : {w : Width} {B : ℕ} {z : ℤ} → Within B z → T (ltb B (2 ^ hbits w)) → SFits w z
 fits h t = abs-fits (lt-of-le-of-lt (h .within) (lit< t))
 
-pub fits-within : {w : Width} {z : ℤ} → SFits w z → Within (2 ^ hbits w) z
-fits-within {w} {z} h = simp lia (omega zarith)
-
 pub widen : {z : ℤ} → SFits w32 z → SFits w64 z
 widen {z} = simp lia (omega arith)
-
-pub shr-fits : (w : Width) (z : ℤ) (m : ℕ) → SFits w z → SFits w (shrZ z m)
-shr-fits w z m h = record { sfits = lt-of-le-of-lt (mag-shr z m) (h .sfits) }
 
 -- ---- read back from the bits: a number of a known bound, and a call's result (its `.ok` is the bare bound)
 pub reads : (w : Width) {B : ℕ} {z : ℤ} → Within B z → T (ltb B (2 ^ hbits w)) → toZ w (ofZ w z) ≡ z

@@ -3,28 +3,16 @@ use mathlib.Core.Path.{_≡_, refl, sym, ap₂}
 use mathlib.Core.Logic.{_≢_}
 use Prim.Native.Nat.{ℕ, zero, suc, _+_, _*_, _≤_, _<_}
 use native.Mathlib.Nat.{add-suc}
-use native.Mathlib.Numerals.{add-one, unary-clauses}
+use native.Mathlib.Numerals.{unary-clauses}
 use native.Mathlib.Omega.{arith}
 use native.Mathlib.Decide.{ℕ-discrete}
-use lib.IntN.{ℤ, pos, negℤ, _+ℤ_, _*ℤ_, natAbs}
-use lib.Signed.{_≤ℤ_}
-use Rattle.whole.specs.Diff.{lia, zarith, Within}
+use lib.IntN.{ℤ, pos, _+ℤ_, _*ℤ_, natAbs}
+use Rattle.whole.specs.Diff.{lia, Within}
 use Rattle.whole.specs.Laws.{abs-add}
 
 unfoldable pub sum : ℕ → (ℕ → ℤ) → ℤ
 sum zero f = pos 0
 sum (suc n) f = sum n f +ℤ f n
-
-pub sum-zero : (f : ℕ → ℤ) → sum 0 f ≡ pos 0
-unfolding sum
-sum-zero f = refl
-
-pub sum-suc : (n : ℕ) (f : ℕ → ℤ) → sum (suc n) f ≡ sum n f +ℤ f n
-unfolding sum
-sum-suc n f = refl
-
-pub sum-step : (n : ℕ) (f : ℕ → ℤ) → sum (n + 1) f ≡ sum n f +ℤ f n
-sum-step n f = rw add-one (sum-suc n f)
 
 pub sum-cong : (n : ℕ) (f g : ℕ → ℤ) → ((i : ℕ) → i < n → f i ≡ g i) → sum n f ≡ sum n g
 unfolding sum
@@ -35,11 +23,6 @@ pub sum-add : (n : ℕ) (f g : ℕ → ℤ) → sum n (λ i. f i +ℤ g i) ≡ s
 unfolding sum
 sum-add zero f g = refl
 sum-add (suc n) f g = rw (sum-add n f g) (simp lia (omega arith))
-
-pub sum-neg : (n : ℕ) (f : ℕ → ℤ) → sum n (λ i. negℤ (f i)) ≡ negℤ (sum n f)
-unfolding sum
-sum-neg zero f = refl
-sum-neg (suc n) f = rw (sum-neg n f) (simp lia (omega arith))
 
 pub sum-scale : (n : ℕ) (c : ℤ) (f : ℕ → ℤ) → sum n (λ i. c *ℤ f i) ≡ c *ℤ sum n f
 unfolding sum
@@ -77,10 +60,6 @@ sum-swap zero n f = sym (sum-none n (λ j. pos 0) (λ i p. refl))
 sum-swap (suc m) n f = rw (sum-swap m n f) (sym (sum-add n (λ j. sum m (λ i. f i j)) (f m)))
 
 -- ---- bounds
-pub sum-le : (n : ℕ) (f g : ℕ → ℤ) → ((i : ℕ) → i < n → f i ≤ℤ g i) → sum n f ≤ℤ sum n g
-unfolding sum
-sum-le zero f g h = record { le = tt }
-sum-le (suc n) f g h = let p = sum-le n f g (λ i q. h i (omega arith)) in let r = h n (omega arith) in simp lia (omega zarith)
 
 pub sum-bound : (n B : ℕ) (f : ℕ → ℤ) → ((i : ℕ) → i < n → natAbs (f i) ≤ B) → natAbs (sum n f) ≤ n * B
 unfolding sum

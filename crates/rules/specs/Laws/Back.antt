@@ -12,7 +12,7 @@ use Rattle.whole.specs.Laws.{Sign, sign-sign}
 use Rattle.rules.specs.Numbers.{at}
 use Rattle.rules.specs.Stages.{Rule, R, fill, Stage, move, weigh, off, weighed, putBack, forward, recover, undo}
 use Rattle.rules.specs.Laws.Good.{Permutes, has, InOrder, end, next, Recovers, Good, moves, weighs}
-use Rattle.rules.specs.Laws.Places.{true-false, has-none, has-first, has-rest, has-more, has-right}
+use Rattle.rules.specs.Laws.Places.{true-false, has-first, has-rest, has-more}
 use Rattle.rules.specs.Laws.Lists.{length-fill, fill-past, fill-at, same-list, set-at, set-other, off-self, off-zero, weighed-agree}
 
 -- ---- a move
@@ -43,20 +43,6 @@ module _ (N : ℕ) (p : ℕ → ℕ) (h : Permutes N p) where
   put-past v k l = put-other N v k (λ i b q. omega (arith, h .below i b))
 
 -- ---- an order: what it says of its first place, of its rest, and of two parts
-order-first : {w : ℕ → ℕ → ℤ} {e : ℕ} {es : List ℕ} → InOrder w (e ∷ es) → (k : ℕ) → has k es ≡ true → (k ≢ e) × (w e k ≡ pos 0)
-order-first (next h t) = h
-
-order-rest : {w : ℕ → ℕ → ℤ} {e : ℕ} {es : List ℕ} → InOrder w (e ∷ es) → InOrder w es
-order-rest (next h t) = t
-
-order-once : {w : ℕ → ℕ → ℤ} (es ks : List ℕ) → InOrder w (es ++ ks) → (e : ℕ) → has e es ≡ true → has e ks ≡ false
-order-once [] ks o e h = absurd (has-none e h)
-order-once (i ∷ es) ks o e h = go (order-once es ks (order-rest o) e) (ℕ-discrete e i) (has e ks) refl
-  where
-    go : (has e es ≡ true → has e ks ≡ false) → Dec (e ≡ i) → (b : Bool) → has e ks ≡ b → has e ks ≡ false
-    go ih (yes q) true c = absurd (order-first o e (has-right e es ks c) .0 q)
-    go ih (yes q) false c = c
-    go ih (no q) b c = ih (sym (has-rest e i es q) ∙ h)
 
 module _ (rule : Rule) where
   -- ---- a weighing
@@ -241,9 +227,3 @@ module _ (rule : Rule) where
       let e : undo rule N (weigh S d w k) (forward rule N (weigh S d w o) u) ≡ u =
       undo-forward N (weighs c g) u (omega (arith, length-recover N S d w o v)) in
       sym e ∙ ap (recover rule N S d w k) (forward-undo N (weighs c h) v room)
-
-  -- a number once recovered stands in the last list: beyond the bound there, the stage is refused
-  pub recover-stays : {w : ℕ → ℕ → ℤ} (N S : ℕ) (d : ℕ → ℤ) (es ks : List ℕ) (u : List ℤ) → InOrder w (es ++ ks) →
-      (e : ℕ) → has e es ≡ true → at (recover rule N S d w (es ++ ks) u) e ≡ at (recover rule N S d w es u) e
-  recover-stays {w} N S d es ks u o e h =
-      rw (recover-append N S d w es ks u) (recover-other N S d w ks (recover rule N S d w es u) e (order-once es ks o e h))

@@ -3,9 +3,8 @@
 use mathlib.Core.Bool.{Bool, true, false, cond}
 use mathlib.Core.List.{List}
 use mathlib.Core.Logic.{_≢_}
-use mathlib.Core.Path.{_≡_, refl, _∙_}
+use mathlib.Core.Path.{_≡_, refl}
 use Prim.Native.Nat.{ℕ, _+_, _-_, _*_, _^_, _/_, _≤_, _<_}
-use native.Mathlib.Nat.{mul-le-mul}
 use native.Mathlib.Nat as NatL
 use native.Mathlib.Decide.{ℕ-discrete}
 use native.Mathlib.Omega.{arith}
@@ -20,9 +19,8 @@ use Rattle.rules.specs.declared.Kind.the-variants.{Permutation}
 use Rattle.rules.specs.Numbers.{unit, unit², mostAllowance, mostEntry, mostOrder, at}
 use Rattle.rules.specs.Factors.{Factor, hasEntry, matrix}
 use Rattle.rules.specs.Stages.{Rule, nearest, R, share, ceiling, off}
-use Rattle.rules.specs.Shapes.{jointWeight}
 use Rattle.rules.specs.Laws.Good.{Sound}
-use Rattle.rules.specs.Laws.Rect.{row-below, col-below, place-below}
+use Rattle.rules.specs.Laws.Rect.{place-below}
 
 -- ---- the bounds
 -- a sum over the weights of a line, or of one row or column of a rectangle
@@ -74,13 +72,6 @@ matrix-small {n} {f} s q = record { small = λ m k a b. go m k a b (ℕ-discrete
     go m k a b (no e) true h = rw (ne-eqb m k e) (s .entries m k a b e h)
     go m k a b (no e) false h = rw (ne-eqb m k e) within-zero
 
-pub weight-within : {n1 n2 : ℕ} {A B : Factor} → Sound n1 A → Sound n2 B → A .kind ≡ B .kind → A .kind ≢ Permutation →
-    (e k : ℕ) → e < n1 * n2 → k < n1 * n2 → Within (mostEntry * mostEntry) (jointWeight n1 n2 A B e k)
-unfolding jointWeight
-weight-within {n1} {n2} a b match q e k l m =
-    within-* (matrix-small a q .small _ _ (row-below n1 n2 e l) (row-below n1 n2 k m))
-    (matrix-small b (λ z. q (match ∙ z)) .small _ _ (col-below n1 n2 e l) (col-below n1 n2 k m))
-
 -- ---- sums
 -- the first j of at most n products
 pub partial : {A B : ℕ} (n j : ℕ) (u x : ℕ → ℤ) → j ≤ n → ((k : ℕ) → k < j → Within A (u k)) → ((k : ℕ) → k < j → Within B (x k)) →
@@ -96,14 +87,6 @@ module _ (g : ℤ → ℤ) (g-within : (A : ℕ) (z : ℤ) → Within A z → Wi
         partial mostOrder j (λ k. g (off (matrix f) m k)) (at v) (omega arith)
         (λ k a. g-within _ _ (off-within (matrix f) m k (matrix-small s q .small m k row (omega arith))))
         (λ k a. each k (omega arith))
-
-    pub entries-within : (h : ℕ → ℕ) (j : ℕ) → j ≤ mostOrder →
-        ((i : ℕ) → i < j → (h i < n) × ((m ≢ h i) × (hasEntry (f .kind) (f .row) m (h i) ≡ true))) →
-        Within (lineMost B) (sum j (λ i. g (f .entry m (h i)) *ℤ at v (h i)))
-    entries-within h j l p =
-        partial mostOrder j (λ i. g (f .entry m (h i))) (λ i. at v (h i)) l
-        (λ i a. g-within _ _ (s .entries m (h i) row (p i a .0) (p i a .1 .0) (p i a .1 .1)))
-        (λ i a. each (h i) (p i a .0))
 
   -- a rectangle: weights P(i,l)·Q(j,k)
   module _ {n1 n2 B : ℕ} {P Q : ℕ → ℕ → ℤ} (p : Small n1 P) (q : Small n2 Q) (t1 : n1 ≤ mostOrder) (t2 : n2 ≤ mostOrder)
@@ -127,16 +110,6 @@ module _ (g : ℤ → ℤ) (g-within : (A : ℕ) (z : ℤ) → Within A z → Wi
     own-within =
         within-* (within-* (g-within _ _ (p .small i i row row)) (g-within _ _ (q .small j j col col)))
         (each (i * n2 + j) (place-below n1 n2 i j row col))
-
-  -- the same over the elements one by one
-  pub elements-within : {n1 n2 C : ℕ} {A B : Factor} → Sound n1 A → Sound n2 B → A .kind ≡ B .kind → A .kind ≢ Permutation →
-      n1 ≤ mostOrder → n2 ≤ mostOrder → (v : List ℤ) → ((e : ℕ) → e < n1 * n2 → Within C (at v e)) →
-      (e : ℕ) → e < n1 * n2 → (t : ℕ) → t ≤ n1 * n2 → Within (jointMost C) (sum t (λ k. g (off (jointWeight n1 n2 A B) e k) *ℤ at v k))
-  elements-within {n1} {n2} {C} {A} {B} a b match q t1 t2 v each e l t h =
-      within-le {A = 256 * ((mostEntry * mostEntry) * C)} (omega arith)
-      (partial 256 t (λ k. g (off (jointWeight n1 n2 A B) e k)) (at v) (omega (arith, NatL.mul-le-mul t1 t2))
-      (λ k m. g-within _ _ (off-within (jointWeight n1 n2 A B) e k (weight-within a b match q e k l (omega arith))))
-      (λ k m. each k (omega arith)))
 
 -- ---- what a stage puts out: M bounds its sum, B its numbers
 pub R-within : {M : ℕ} {s : ℤ} (rule : Rule) (S : ℕ) → Within M s → Within (M + S / 2) (R rule S s)

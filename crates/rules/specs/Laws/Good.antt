@@ -8,7 +8,6 @@ use lib.Dec.{eqb}
 use lib.IntN.{ℤ, pos, natAbs, _-ℤ_, _*ℤ_}
 use Rattle.whole.specs.Diff.{Within}
 use Rattle.whole.specs.Laws.{Sign}
-use Rattle.rules.specs.declared.Kind.{Kind}
 use Rattle.rules.specs.declared.Kind.the-variants.{Permutation}
 use Rattle.rules.specs.Numbers.{mostEntry, unit}
 use Rattle.rules.specs.Factors.{Factor, hasEntry}
@@ -42,6 +41,9 @@ pub record Recovers (N : ℕ) (d : ℕ → ℤ) (w : ℕ → ℕ → ℤ) (order
 pub data Good (N : ℕ) : Stage → Type 0 where
   moves : {S : ℕ} {p : ℕ → ℕ} → 0 < S → Permutes N p → Good N (move S p)
   weighs : {S : ℕ} {d : ℕ → ℤ} {w : ℕ → ℕ → ℤ} {o : List ℕ} → 0 < S → Recovers N d w o → Good N (weigh S d w o)
+
+pub good-recovers : {N S : ℕ} {d : ℕ → ℤ} {w : ℕ → ℕ → ℤ} {o : List ℕ} → Good N (weigh S d w o) → Recovers N d w o
+good-recovers (weighs b h) = h
 
 pub data AllGood (N : ℕ) : List Stage → Type 0 where
   none : AllGood N []

@@ -29,6 +29,13 @@ by-kind P Lower a b f g = g (λ e. let z : _≡_ {A = ℕ} 0 1 = cc in omega ari
 by-kind P Upper a b f g = g (λ e. let z : _≡_ {A = ℕ} 0 1 = cc in omega arith)
 by-kind P Single a b f g = g (λ e. let z : _≡_ {A = ℕ} 0 1 = cc in omega arith)
 
+pub stage-moves : (kind : Kind) (a b : Stage) → kind ≡ Permutation → stageOf kind a b ≡ a
+unfolding stageOf
+stage-moves kind a b q = rw q
+
+pub stage-weighs : (kind : Kind) (a b : Stage) → kind ≢ Permutation → stageOf kind a b ≡ b
+stage-weighs kind a b q = by-kind (λ s. s ≡ b) kind a b (λ e. absurd (q e)) (λ e. refl)
+
 -- ---- one side: a row's turn, and where it has an entry off the diagonal, the column's turn is earlier
 abbrev turnOf : Kind → ℕ → Factor → ℕ → ℕ
 turnOf kind n f m = turn kind n (inRow f m) m

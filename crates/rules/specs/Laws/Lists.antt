@@ -14,7 +14,7 @@ use lib.Seq.{getD-set-same, getD-set-other, ext-getD}
 use Rattle.whole.specs.Diff.{Within}
 use Rattle.whole.specs.Sum.{sum-cong}
 use Rattle.rules.specs.Numbers.{at}
-use Rattle.rules.specs.Stages.{fill, inside, off, weighed}
+use Rattle.rules.specs.Stages.{fill, inside, off, weighed, putBack}
 use Rattle.rules.specs.Laws.Places.{true-false}
 
 -- ---- fill
@@ -36,6 +36,16 @@ fill-at (suc n) f v k h l = go (λ h′. fill-at n f v k h′ (omega arith)) (�
     go : (k < n → at (fill n f v) k ≡ f k) → Dec (k ≡ n) → at (set (fill n f v) n (f n)) k ≡ f k
     go ih (yes e) = rw e (getD-set-same (fill n f v) n (f n) (pos 0) (omega (arith, length-fill n f v)))
     go ih (no q) = getD-set-other (fill n f v) n k (f n) (pos 0) q ∙ ih (omega arith)
+
+pub fill-same : (n : ℕ) (f g : ℕ → ℤ) (v : List ℤ) → ((e : ℕ) → e < n → f e ≡ g e) → fill n f v ≡ fill n g v
+unfolding fill
+fill-same zero f g v h = refl
+fill-same (suc n) f g v h = rw (fill-same n f g v (λ e l. h e (omega arith)), h n (omega arith))
+
+pub put-same : (n : ℕ) (p q : ℕ → ℕ) (v : List ℤ) → ((e : ℕ) → p e ≡ q e) → putBack n p v ≡ putBack n q v
+unfolding putBack
+put-same zero p q v h = refl
+put-same (suc n) p q v h = rw (put-same n p q v h, h n)
 
 -- two lists of one length that agree below n and from n on
 pub same-list : (n : ℕ) (u v : List ℤ) → length u ≡ length v →

@@ -17,7 +17,7 @@ use Rattle.whole.specs.Laws.{Sign, distrib, abs-mul, mul-le-mul-left, sign-abs}
 use Rattle.whole.specs.Floor.{ceiling-up}
 use Rattle.whole.specs.Sum.{sum, sum-cong}
 use Rattle.rules.specs.Numbers.{unit, at}
-use Rattle.rules.specs.Stages.{Rule, R, share, ceiling, fill, Stage, move, weigh, scale, off, weighed, multiples, forward, allow, exact, done, through, runForward, runAllowance, exactProduct, exactScale}
+use Rattle.rules.specs.Stages.{Rule, R, share, ceiling, Stage, move, weigh, scale, off, weighed, multiples, forward, allow, exact, done, through, runForward, runAllowance, exactProduct, exactScale}
 use Rattle.rules.specs.Laws.Good.{Good, moves, weighs, AllGood}
 use Rattle.rules.specs.Laws.Rounding.{rounding}
 use Rattle.rules.specs.Laws.Places.{true-false}
@@ -102,18 +102,6 @@ pub record Less (N : ℕ) (x z u : List ℤ) : Type 0 where
   pub long-z : N ≤ length z
   pub long-u : N ≤ length u
   pub less : (e : ℕ) → e < N → at u e ≡ at x e -ℤ at z e
-
-unfoldable pub minus : ℕ → List ℤ → List ℤ → List ℤ
-minus n x z = fill n (λ e. at x e -ℤ at z e) x
-
-pub minus-less : (N : ℕ) (x z : List ℤ) → N ≤ length x → N ≤ length z → Less N x z (minus N x z)
-unfolding minus
-minus-less N x z h k = record {
-  long-x = h;
-  long-z = k;
-  long-u = omega (arith, length-fill N (λ e. at x e -ℤ at z e) x);
-  less = λ e l. fill-at N _ x e l h;
-}
 
 -- a sum whose numbers are D·y - x, weighed
 weighed-error : (n : ℕ) (D : ℤ) (u : ℕ → ℤ) (y x : List ℤ) →
@@ -299,9 +287,3 @@ module _ (rule : Rule) where
             let j : unit * a ≤ n = NatL.le-of-mul-le-mul-left m h in
             simp lia (omega arith)
         cancel D a (negsuc n) h k = let z : ⊥ = given₁ k (simp lia (omega arith)) in absurd z
-
-    -- the same of the list x minus z itself
-    pub difference-minus : (x z : List ℤ) → N ≤ length x → N ≤ length z → (fx fz fd : List ℤ) →
-        runForward rule N ss x ≡ done fx → runForward rule N ss z ≡ done fz → runForward rule N ss (minus N x z) ≡ done fd →
-        (e : ℕ) → e < N → pos (unit * natAbs ((at fx e -ℤ at fz e) -ℤ at fd e)) ≤ℤ (pos 3 *ℤ at b e)
-    difference-minus x z h k = difference (minus-less N x z h k)

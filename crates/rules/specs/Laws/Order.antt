@@ -1,16 +1,15 @@
 -- The order by turns recovers a weighing whose weights are 0 at every other element of the same or a later turn.
 use mathlib.Core.Bool.{Bool, true, false, cond}
-use mathlib.Core.List.{List, [], _∷_, _++_, append-nil}
+use mathlib.Core.List.{List, [], _∷_, _++_}
 use mathlib.Core.Logic.{_≢_, _⊎_, inl, inr}
 use mathlib.Core.Path.{_≡_, refl, sym, ap, _∙_}
-use Prim.Native.Nat.{ℕ, zero, suc, _+_, _-_, _≤_, _<_}
+use Prim.Native.Nat.{ℕ, zero, suc, _≤_, _<_}
 use native.Mathlib.Decide.{ℕ-discrete}
 use native.Mathlib.Omega.{arith}
 use borrow.Author.Tests.{eq-eqb, ne-eqb, eqb-true}
 use lib.Dec.{eqb}
 use lib.IntN.{ℤ, pos}
 use Rattle.whole.specs.Laws.{Sign}
-use Rattle.rules.specs.declared.Kind.the-variants.{Lower, Upper, Single}
 use Rattle.rules.specs.Shapes.{those, byTurn, turn, order}
 use Rattle.rules.specs.Laws.Good.{has, InOrder, end, next, Recovers}
 use Rattle.rules.specs.Laws.Places.{true-false, has-none, has-first, has-more, has-left, has-right, has-either}
@@ -141,30 +140,3 @@ pub turn-one : (N t : ℕ) (turn : ℕ → ℕ) (e : ℕ) → e < N → turn e �
 unfolding byTurn
 turn-one N t turn e l h q =
     rw (those-one (λ k. eqb (turn k) t) N e l (eq-eqb (turn e) t h) (λ k b i. ne-eqb (turn k) t (λ z. i (q k b z))))
-
--- turns that none has
-turns-end : (N T k : ℕ) (turn : ℕ → ℕ) → ((e : ℕ) → e < N → turn e < T) → byTurn N (k + T) turn ≡ byTurn N T turn
-unfolding byTurn
-turns-end N T zero turn h = let e : zero + T ≡ T = omega arith in rw e
-turns-end N T (suc k) turn h =
-    let e : suc k + T ≡ suc (k + T) = omega arith in
-    rw (e, turns-end N T k turn h, those-none (λ i. eqb (turn i) (k + T)) N (λ i l. ne-eqb (turn i) (k + T) (omega (arith, h i l)))) (append-nil _)
-
--- kind 2: element t at turn t; kind 3: element N - 1 - t; kind 4: of four turns
-pub lower-step : (N t : ℕ) → t < N → byTurn N (suc t) (λ e. e) ≡ byTurn N t (λ e. e) ++ (t ∷ [])
-lower-step N t l = turn-one N t (λ e. e) t l refl (λ k b h. h)
-
-pub lower-end : (N : ℕ) (shared : ℕ → ℕ) → order Lower N shared ≡ byTurn N N (λ e. e)
-unfolding order turn
-lower-end N shared = let e : N + 4 ≡ 4 + N = omega arith in rw e (turns-end N N 4 (λ e. e) (λ e l. l))
-
-pub upper-step : (N t : ℕ) → t < N → byTurn N (suc t) (λ e. N - suc e) ≡ byTurn N t (λ e. N - suc e) ++ ((N - suc t) ∷ [])
-upper-step N t l = turn-one N t (λ e. N - suc e) (N - suc t) (omega arith) (omega arith) (λ k b h. omega arith)
-
-pub upper-end : (N : ℕ) (shared : ℕ → ℕ) → order Upper N shared ≡ byTurn N N (λ e. N - suc e)
-unfolding order turn
-upper-end N shared = let e : N + 4 ≡ 4 + N = omega arith in rw e (turns-end N N 4 (λ e. N - suc e) (λ e l. omega arith))
-
-pub single-end : (N : ℕ) (shared : ℕ → ℕ) → ((e : ℕ) → e < N → shared e < 4) → order Single N shared ≡ byTurn N 4 shared
-unfolding order turn
-single-end N shared h = turns-end N 4 N shared h
