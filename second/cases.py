@@ -111,11 +111,19 @@ def case_write(rng, longest):
     return Case(sheet, [], [], room, answer, after)
 
 
-def case_built_in(rng, longest):
+def case_table(rng, longest, call):
     length = 4386 if longest else rng.choice([0, 44, 45, 46, rng.randint(0, 100)])
     room = generate.lent(rng, length)
-    answer, after = model.built_in(room)
+    answer, after = call(room)
     return Case([], [], [], room, answer, after)
+
+
+def case_built_in(rng, longest):
+    return case_table(rng, longest, model.built_in)
+
+
+def case_first_printing(rng, longest):
+    return case_table(rng, longest, model.first_printing)
 
 
 # ---------------------------------------------------------------------------
@@ -498,6 +506,7 @@ CALLS = {
     "program": (13, case_program),
     "line-law": (14, case_line_law),
     "joint-law": (15, case_joint_law),
+    "first-printing": (16, case_first_printing),
     "line-cut": (7, case_line_cut),
     "joint-cut": (10, case_joint_cut),
 }

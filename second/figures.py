@@ -92,9 +92,35 @@ def figure_f(group):
 
 
 def figure_g(group):
-    group.same(len(model.BUILT_IN), 45)
-    group.same(model.check(model.BUILT_IN), OK)
-    group.same(run(model.BUILT_IN, [100, 0, 0, 0]), (OK, [50, 50, 50, 50]))
+    for table in (model.BUILT_IN, model.FIRST_PRINTING):
+        group.same(len(table), 45)
+        group.same(model.check(table), OK)
+        group.same(run(table, [100, 0, 0, 0]), (OK, [50, 50, 50, 50]))
+
+
+# "DCT" of source 001, section 5, in ten-thousandths.
+PRINTED_DCT = [
+    [5000, 5000, 5000, 5000],
+    [6533, 2706, -2706, -6533],
+    [5000, -5000, -5000, 5000],
+    [2706, -6533, 6533, -2706],
+]
+
+
+def far_elements(table):
+    """How many elements of the exact product are beyond 50/10000 of the transposed DCT."""
+    beyond = 0
+    for j in range(4):
+        column, scale = model.line_exact(table, [int(k == j) for k in range(4)])
+        beyond += sum(abs(10000 * column[i] - scale * PRINTED_DCT[j][i]) > 50 * scale for i in range(4))
+    return beyond
+
+
+def request_2(group):
+    group.same(run(model.FIRST_PRINTING, [0, 100, 0, 0]), (OK, [163, -94, 94, -65]))
+    group.same(run(model.BUILT_IN, [0, 100, 0, 0]), (OK, [65, 28, -28, -65]))
+    group.same(far_elements(model.BUILT_IN), 0)
+    group.holds(far_elements(model.FIRST_PRINTING) > 0, "the first printing passes")
 
 
 def figure_h(group):
@@ -277,7 +303,7 @@ def decoding_law(rng, group):
 
 LAWS = [round_trip_law, trip_round_law, allowance_law, difference_law, cut_law]
 FIGURES = [
-    figure_a, figure_b, figure_c, figure_d, figure_e, figure_f, figure_g, figure_h,
+    figure_a, figure_b, figure_c, figure_d, figure_e, figure_f, figure_g, figure_h, request_2,
     worked_example, limits,
 ]
 

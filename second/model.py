@@ -604,7 +604,8 @@ def joint_allowance(col, row, out):
 # ---------------------------------------------------------------------------
 # Built-in recipe
 
-BUILT_IN = [
+# Request R-2: U lost a sign in print, row 1, column 3.
+FIRST_PRINTING = [
     4, 5,
     1, 3, 2, 0, 1,
     2, 1, 1, 1, 1, 1612, 0, -4096, -815, 3281, 0,
@@ -612,14 +613,23 @@ BUILT_IN = [
     2, 1, 1, 1, 1, -2106, 2106, -4096, -872, 3281, 0,
     1, 3, 2, 1, 0,
 ]
+BUILT_IN = [-2484 if number == 2484 else number for number in FIRST_PRINTING]
+
+
+def write_table(table, room):
+    """"A call writes it into a lent slice, or answers 15"."""
+    try:
+        return write_into(table, room)
+    except Refused as refused:
+        return refused.answer, list(room)
 
 
 def built_in(room):
-    """"A call writes it into a lent slice, or answers 15"."""
-    try:
-        return write_into(BUILT_IN, room)
-    except Refused as refused:
-        return refused.answer, list(room)
+    return write_table(BUILT_IN, room)
+
+
+def first_printing(room):
+    return write_table(FIRST_PRINTING, room)
 
 
 # ---------------------------------------------------------------------------

@@ -13,7 +13,7 @@ use Rattle.rules.specs.Numbers.{unit, unit², at, count}
 use Rattle.rules.specs.Factors.{factors}
 use Rattle.rules.specs.Stages.{Rule, exactProduct, exactScale}
 use Rattle.rules.specs.Answers.{accepted, pairChecked}
-use Rattle.rules.specs.Calls.{Reply, Gives, reply, read, write, writeBuiltIn, Plan, line, joint, runReply, forwardCall, inverseCall, allowanceCall}
+use Rattle.rules.specs.Calls.{Reply, Gives, reply, read, write, writeTable, Plan, line, joint, runReply, forwardCall, inverseCall, allowanceCall}
 use Rattle.rules.specs.Laws.Runs.{there-and-back, back-and-there}
 use Rattle.rules.specs.Laws.Near as Near
 use Rattle.rules.specs.Laws.Cuts.{lines-scale, joints-scale}
@@ -127,9 +127,9 @@ pub write-keeps : (s : List ℤ) (room : List ℕ) → Keeps (write s room) room
 unfolding write
 write-keeps s room = reply-keeps _ _ room
 
-pub built-in-keeps : (room : List ℤ) → Keeps (writeBuiltIn room) room
-unfolding writeBuiltIn
-built-in-keeps room = reply-keeps _ _ room
+pub table-keeps : (table room : List ℤ) → Keeps (writeTable table room) room
+unfolding writeTable
+table-keeps table room = reply-keeps _ _ room
 
 -- ---- "the statement about its result leaves one answer and one state of lent memory"
 pub one-answer : {A : Type 0} {a b : Answer} {m n : List A} (q : Reply A) → Gives a m q → Gives b n q → (a ≡ b) × (m ≡ n)

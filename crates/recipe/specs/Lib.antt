@@ -7,4 +7,5 @@ pub mod Reading
 pub mod Writing
 pub mod Calls
 pub mod Trips
+pub mod Printings
 pub mod Promises

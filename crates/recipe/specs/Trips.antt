@@ -1,5 +1,5 @@
 -- THERE AND BACK, over the calls: what the writer wrote is read as its sheet, what the reader read is written as its bytes,
--- and no other bytes are read so. Then the built-in recipe is an accepted sheet.
+-- and no other bytes are read so. Then the built-in recipe is an accepted sheet, in both printings.
 use mathlib.Core.List.{List}
 use mathlib.Core.Path.{_≡_, refl, sym, ap, _∙_}
 use Prim.Native.Nat.{ℕ}
@@ -8,7 +8,7 @@ use lib.ListN.{length, take}
 use Rattle.rules.specs.Sheets.{go, times, among, faultOf, one, kindOf, triangle, weights, body, factor, closed, head, reading}
 use Rattle.rules.specs.Recipes.{packed, numbersOf}
 use Rattle.rules.specs.Answers.{accepted, counted, checked}
-use Rattle.rules.specs.Calls.{Reply, reply, fitting, over, spelling, read, write, builtIn}
+use Rattle.rules.specs.Calls.{Reply, reply, fitting, over, spelling, read, write, builtIn, firstPrinting}
 use Rattle.laws.specs.Accepted.{accepted-read}
 use Rattle.laws.specs.Low.{accepted-low}
 use Rattle.recipe.specs.Codes.{small-codable}
@@ -63,7 +63,7 @@ one-recipe a b out ha hb k e =
     sym (front (numbersOf a) out (r .whole)) ∙ ap read-by e ∙ front (numbersOf b) out (t .whole) in
     one-spelling ha hb (r .all) (t .all) s
 
--- ---- the built-in recipe
-pub built-in-accepted : checked builtIn ≡ accepted
+-- ---- the built-in recipe, corrected and as first printed
+pub built-in-accepted : (checked builtIn ≡ accepted) × (checked firstPrinting ≡ accepted)
 unfolding reading head go times one faultOf among kindOf triangle weights body factor closed
-built-in-accepted = refl
+built-in-accepted = (refl, refl)

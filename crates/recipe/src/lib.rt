@@ -12,4 +12,5 @@ pub use reading::decode;
 pub use reading::read;
 pub use reading::scan;
 pub use table::built_in;
+pub use table::first_printing;
 pub use writing::write;

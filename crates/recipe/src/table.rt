@@ -1,13 +1,16 @@
-// The built-in recipe.
+// The built-in recipe, corrected and as first printed.
 ghost use mathlib.Core.Path.{_≡_};
 ghost use Prim.Native.Nat.{_≤_, _<_};
 ghost use lib.ListN.{length};
 ghost use Rattle.rules.specs.Numbers.{at};
-ghost use Rattle.rules.specs.Calls.{Gives, over, builtIn, writeBuiltIn};
+ghost use Rattle.rules.specs.Calls.{Gives, over, builtIn, firstPrinting, writeTable};
 use crate::answers::fitting;
 use rules::Answer;
 
 const LENGTH: usize = 45;
+
+// Where the entry of U in row 1, column 3 stands.
+const LOST: usize = 27;
 
 // Four points: the printed factors of 001, section 5, rounded to 1/4096, in order of application P_R, L_2, U, L_1, P_L.
 const TABLE: [i32; LENGTH] = [
@@ -38,7 +41,7 @@ const TABLE: [i32; LENGTH] = [
     2048,
     -2676,
     3101,
-    2484,
+    -2484,
     0,
     2,
     1,
@@ -76,14 +79,27 @@ fn copy_table(out: &mut [i32])
     }
 }
 
-// Writes the built-in recipe: 15, or the table.
+// Writes the built-in recipe: 15, or the table. Its product is the transpose of the DCT of 001 (`cosine-close`), so the cosine
+// coefficients of a block come from the inverse run, and the forward run restores it.
 pub fn built_in(out: &mut [i32]) -> Answer
-    ensures { λ r. ⌜ Gives r (now (out .exit)) (writeBuiltIn (now (out .entry))) ⌝ }
+    ensures { λ r. ⌜ Gives r (now (out .exit)) (writeTable builtIn (now (out .entry))) ⌝ }
 {
     let answer = fitting(LENGTH, out.len());
     if answer.number != 0 {
         return answer;
     }
     copy_table(out);
+    answer
+}
+
+// Writes the built-in recipe as it was first printed, for recipes and coefficients that were kept under it: U's sign is lost.
+pub fn first_printing(out: &mut [i32]) -> Answer
+    ensures { λ r. ⌜ Gives r (now (out .exit)) (writeTable firstPrinting (now (out .entry))) ⌝ }
+{
+    let answer = built_in(out);
+    if answer.number != 0 {
+        return answer;
+    }
+    out[LOST] = -TABLE[LOST];
     answer
 }

@@ -48,23 +48,31 @@ read b room =
 unfoldable pub write : List ℤ → List ℕ → Reply ℕ
 write s room = reply (checked s or-else fitting (length (packed s)) (length room)) (over (packed s) room) room
 
--- "BUILT-IN RECIPE": "It is a table of 45 numbers"
+-- "BUILT-IN RECIPE": "It is a table of 45 numbers"; u is U's entry in row 1, column 3
 abbrev neg : ℕ → ℤ
 neg n = negℤ (pos n)
 
-abbrev pub builtIn : List ℤ
-builtIn =
+abbrev tableWith : ℤ → List ℤ
+tableWith u =
     pos 4 ∷ pos 5
     ∷ pos 1 ∷ pos 3 ∷ pos 2 ∷ pos 0 ∷ pos 1
     ∷ pos 2 ∷ pos 1 ∷ pos 1 ∷ pos 1 ∷ pos 1 ∷ pos 1612 ∷ pos 0 ∷ neg 4096 ∷ neg 815 ∷ pos 3281 ∷ pos 0
-    ∷ pos 3 ∷ neg 1 ∷ pos 1 ∷ pos 1 ∷ pos 1 ∷ pos 6238 ∷ pos 2048 ∷ neg 2676 ∷ pos 3101 ∷ pos 2484 ∷ pos 0
+    ∷ pos 3 ∷ neg 1 ∷ pos 1 ∷ pos 1 ∷ pos 1 ∷ pos 6238 ∷ pos 2048 ∷ neg 2676 ∷ pos 3101 ∷ u ∷ pos 0
     ∷ pos 2 ∷ pos 1 ∷ pos 1 ∷ pos 1 ∷ pos 1 ∷ neg 2106 ∷ pos 2106 ∷ neg 4096 ∷ neg 872 ∷ pos 3281 ∷ pos 0
     ∷ pos 1 ∷ pos 3 ∷ pos 2 ∷ pos 1 ∷ pos 0
     ∷ []
 
+-- as corrected (R-2): "the table's 2484 becomes -2484"
+abbrev pub builtIn : List ℤ
+builtIn = tableWith (neg 2484)
+
+-- "the old table stays as 'first printing'"
+abbrev pub firstPrinting : List ℤ
+firstPrinting = tableWith (pos 2484)
+
 -- "A call writes it into a lent slice, or answers 15"
-unfoldable pub writeBuiltIn : List ℤ → Reply ℤ
-writeBuiltIn room = reply (fitting (length builtIn) (length room)) (over builtIn room) room
+unfoldable pub writeTable : List ℤ → List ℤ → Reply ℤ
+writeTable table room = reply (fitting (length table) (length room)) (over table room) room
 
 -- ---- runs: what they take from their sheets
 pub record Plan : Type 0 where

@@ -13,7 +13,7 @@ use Rattle.rules.specs.Stages.{nearest, R, share, ceiling, fill, inside,
 use Rattle.rules.specs.Shapes.{those, byTurn, turn, order, inRow, stageOf, lineStage, lineStages, jointSource, jointSign, jointWeight, jointShared, jointStage, jointStages}
 use Rattle.rules.specs.Recipes.{code, value, spell, group, groups, packed, unpack, left, written}
 use Rattle.rules.specs.Answers.{_or-else_, accepted, counted, refused, further, first, matching, pairChecked}
-use Rattle.rules.specs.Calls.{Reply, reply, read, write, builtIn, writeBuiltIn, line, joint, ranAnswer, ranMemory, runReply, forwardCall, inverseCall, allowanceCall}
+use Rattle.rules.specs.Calls.{Reply, reply, read, write, builtIn, firstPrinting, writeTable, line, joint, ranAnswer, ranMemory, runReply, forwardCall, inverseCall, allowanceCall}
 
 -- what a case shows, and what document 01 prints for it
 pub data Shown : Type 0 where
@@ -47,6 +47,9 @@ four x y z t = x ∷ y ∷ z ∷ t ∷ []
 -- what the lent slice holds before a call
 abbrev found₂ : List ℤ
 found₂ = two (pos 9) (neg 9)
+
+abbrev found₄ : List ℤ
+found₄ = four (pos 0) (pos 0) (pos 0) (pos 0)
 
 abbrev a : List ℤ
 a = pos 2 ∷ pos 1 ∷ pos 2 ∷ pos 1 ∷ pos 1 ∷ pos 2048 ∷ []
@@ -91,12 +94,21 @@ table =
     ∷ gives (forwardCall nearest (line e) (two (pos 16777216) (pos 0)) found₂) (refused 11 0 0) found₂
     ∷ gives (allowanceCall nearest (line e) found₂) accepted (two (pos 0) (pos 0))
     -- f: "sheet a on both sides: rows (1,1),(0,0) to (1,2),(1,1)", and back
-    ∷ gives (forwardCall nearest (joint a a) (four (pos 1) (pos 1) (pos 0) (pos 0)) (four (pos 0) (pos 0) (pos 0) (pos 0))) accepted (four (pos 1) (pos 2) (pos 1) (pos 1))
-    ∷ gives (inverseCall nearest (joint a a) (four (pos 1) (pos 2) (pos 1) (pos 1)) (four (pos 0) (pos 0) (pos 0) (pos 0))) accepted (four (pos 1) (pos 1) (pos 0) (pos 0))
-    -- g: "built-in: (100,0,0,0) to (50,50,50,50)", and back: from the top for kind 2, from the bottom for kind 3
-    ∷ gives (forwardCall nearest (line builtIn) (four (pos 100) (pos 0) (pos 0) (pos 0)) (four (pos 0) (pos 0) (pos 0) (pos 0))) accepted (four (pos 50) (pos 50) (pos 50) (pos 50))
-    ∷ gives (inverseCall nearest (line builtIn) (four (pos 50) (pos 50) (pos 50) (pos 50)) (four (pos 0) (pos 0) (pos 0) (pos 0))) accepted (four (pos 100) (pos 0) (pos 0) (pos 0))
-    ∷ gives (writeBuiltIn found₂) (refused 15 0 45) found₂
+    ∷ gives (forwardCall nearest (joint a a) (four (pos 1) (pos 1) (pos 0) (pos 0)) found₄) accepted (four (pos 1) (pos 2) (pos 1) (pos 1))
+    ∷ gives (inverseCall nearest (joint a a) (four (pos 1) (pos 2) (pos 1) (pos 1)) found₄) accepted (four (pos 1) (pos 1) (pos 0) (pos 0))
+    -- g: "built-in: (100,0,0,0) to (50,50,50,50)", and back: from the top for kind 2, from the bottom for kind 3; in both printings
+    ∷ gives (forwardCall nearest (line builtIn) (four (pos 100) (pos 0) (pos 0) (pos 0)) found₄) accepted (four (pos 50) (pos 50) (pos 50) (pos 50))
+    ∷ gives (inverseCall nearest (line builtIn) (four (pos 50) (pos 50) (pos 50) (pos 50)) found₄) accepted (four (pos 100) (pos 0) (pos 0) (pos 0))
+    ∷ gives (forwardCall nearest (line firstPrinting) (four (pos 100) (pos 0) (pos 0) (pos 0)) found₄) accepted (four (pos 50) (pos 50) (pos 50) (pos 50))
+    ∷ gives (inverseCall nearest (line firstPrinting) (four (pos 50) (pos 50) (pos 50) (pos 50)) found₄) accepted (four (pos 100) (pos 0) (pos 0) (pos 0))
+    -- R-2: "sends (0,100,0,0) to (163,-94,94,-65)", and as corrected to "(65,28,-28,-65)"
+    ∷ gives (forwardCall nearest (line firstPrinting) (four (pos 0) (pos 100) (pos 0) (pos 0)) found₄) accepted (four (pos 163) (neg 94) (pos 94) (neg 65))
+    ∷ gives (forwardCall nearest (line builtIn) (four (pos 0) (pos 100) (pos 0) (pos 0)) found₄) accepted (four (pos 65) (pos 28) (neg 28) (neg 65))
+    -- cosine coefficients "come from the inverse run": of a flat block, and of a slope
+    ∷ gives (inverseCall nearest (line builtIn) (four (pos 100) (pos 100) (pos 100) (pos 100)) found₄) accepted (four (pos 200) (pos 0) (pos 0) (pos 0))
+    ∷ gives (inverseCall nearest (line builtIn) (four (pos 100) (pos 110) (pos 120) (pos 130)) found₄) accepted (four (pos 230) (neg 22) (pos 0) (neg 1))
+    ∷ gives (writeTable builtIn found₂) (refused 15 0 45) found₂
+    ∷ gives (writeTable firstPrinting found₂) (refused 15 0 45) found₂
     -- h: "entry 16384 is bytes 80 80 02; bytes 84 00 are refused 14"
     ∷ record { found = bytes (written (pos 16384)); printed = bytes (0x80 ∷ 0x80 ∷ 0x02 ∷ []) }
     ∷ gives (read (0x84 ∷ 0x00 ∷ []) found₂) (refused 14 0 0) found₂
@@ -104,7 +116,7 @@ table =
 
 -- every case shows what document 01 prints
 pub figures : map (λ (f : Figure). f .found) table ≡ map (λ (f : Figure). f .printed) table
-unfolding table sum go times among faultOf one kindOf triangle weights body factor closed head reading numbers signsAt above entriesBefore factorAt factorsFrom factors hasEntry matrix R share ceiling fill inside off weighed multiples putBack forward recover undo allow later run runForward runInverse runAllowance those byTurn turn order inRow stageOf lineStage lineStages jointSource jointSign jointWeight jointShared jointStage jointStages code value spell group groups packed unpack left _or-else_ further first matching pairChecked reply read write writeBuiltIn line joint ranAnswer ranMemory runReply forwardCall inverseCall allowanceCall
+unfolding table sum go times among faultOf one kindOf triangle weights body factor closed head reading numbers signsAt above entriesBefore factorAt factorsFrom factors hasEntry matrix R share ceiling fill inside off weighed multiples putBack forward recover undo allow later run runForward runInverse runAllowance those byTurn turn order inRow stageOf lineStage lineStages jointSource jointSign jointWeight jointShared jointStage jointStages code value spell group groups packed unpack left _or-else_ further first matching pairChecked reply read write writeTable line joint ranAnswer ranMemory runReply forwardCall inverseCall allowanceCall
 figures = refl
 
 -- the recovery orders of a rectangle of three by three, kind 4 with rows 1 and 2

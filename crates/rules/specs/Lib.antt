@@ -7,4 +7,5 @@ pub mod Recipes
 pub mod Answers
 pub mod Calls
 pub mod Figures
+pub mod Cosine
 pub mod Laws

@@ -8,7 +8,7 @@ use Rattle.rules.specs.Stages.{R, share, ceiling, fill, inside, off, weighed, m
 use Rattle.rules.specs.Shapes.{those, byTurn, turn, order, inRow, stageOf, lineStage, lineStages, jointSource, jointSign, jointWeight, jointShared, jointStage, jointStages}
 use Rattle.rules.specs.Recipes.{code, value, spell, group, groups, packed, unpack, left}
 use Rattle.rules.specs.Answers.{_or-else_, further, first, matching, pairChecked}
-use Rattle.rules.specs.Calls.{reply, read, write, writeBuiltIn, line, joint, ranAnswer, ranMemory, runReply, forwardCall, inverseCall, allowanceCall}
+use Rattle.rules.specs.Calls.{reply, read, write, writeTable, line, joint, ranAnswer, ranMemory, runReply, forwardCall, inverseCall, allowanceCall}
 use Rattle.whole.specs.Sum.{sum}
 use Rattle.session.specs.Program.{digitAt, digits, decimal, spaced, lineOf, sayForward, sayBack, sayAllow, refusal, replied, afterwards, ran, counts, printed}
 
@@ -23,5 +23,5 @@ output =
     ++ (sayAllow ++ (32 ∷ 53 ∷ 49 ∷ 50 ∷ 48 ∷ 32 ∷ 50 ∷ 48 ∷ 52 ∷ 56 ∷ 10 ∷ [])))
 
 pub worked-example : printed input ≡ output
-unfolding digitAt digits decimal spaced lineOf refusal replied afterwards ran counts printed sum go times among faultOf one kindOf triangle weights body factor closed head reading numbers signsAt above entriesBefore factorAt factorsFrom factors hasEntry matrix R share ceiling fill inside off weighed multiples putBack forward recover undo allow later run runForward runInverse runAllowance those byTurn turn order inRow stageOf lineStage lineStages jointSource jointSign jointWeight jointShared jointStage jointStages code value spell group groups packed unpack left _or-else_ further first matching pairChecked reply read write writeBuiltIn line joint ranAnswer ranMemory runReply forwardCall inverseCall allowanceCall
+unfolding digitAt digits decimal spaced lineOf refusal replied afterwards ran counts printed sum go times among faultOf one kindOf triangle weights body factor closed head reading numbers signsAt above entriesBefore factorAt factorsFrom factors hasEntry matrix R share ceiling fill inside off weighed multiples putBack forward recover undo allow later run runForward runInverse runAllowance those byTurn turn order inRow stageOf lineStage lineStages jointSource jointSign jointWeight jointShared jointStage jointStages code value spell group groups packed unpack left _or-else_ further first matching pairChecked reply read write writeTable line joint ranAnswer ranMemory runReply forwardCall inverseCall allowanceCall
 worked-example = refl

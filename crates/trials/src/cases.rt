@@ -72,7 +72,7 @@ fn lay_out(head: &[i32; 5]) -> Layout {
     }
 }
 
-// Runs a case: whether its answer and the lent memory are the expected ones. The calls after 13 try a law: their coefficients have
+// Runs a case: whether its answer and the lent memory are the expected ones. Calls 14 and 15 try a law: their coefficients have
 // to lie between two blocks, the least in Y before the call and the largest in Y after it.
 fn judge(call: usize, c: Layout, w: &[i32]) -> bool {
     let a = part(w, 0, c.a);
@@ -95,7 +95,7 @@ fn judge(call: usize, c: Layout, w: &[i32]) -> bool {
         return false;
     }
     let after = part(w, c.after, c.end);
-    if call > 13 {
+    if call == 14 || call == 15 {
         return is_between(&room, y, after);
     }
     is_front(&room, after)
@@ -137,7 +137,7 @@ fn next_case() -> Verdict {
 }
 
 // Runs case after case, and counts.
-pub fn run_all(counts: &mut [u64; 48]) -> End {
+pub fn run_all(counts: &mut [u64; 51]) -> End {
     for case in 0..MANY {
         let v = next_case();
         if v.call == 0 {

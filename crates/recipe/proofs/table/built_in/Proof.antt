@@ -2,7 +2,7 @@
 use mathlib.Core.Path.{sym, ap, _∙_}
 use lib.ListN.{length}
 use Rattle.rules.specs.declared.Answer.{Answer}
-use Rattle.rules.specs.Calls.{over, builtIn, writeBuiltIn}
+use Rattle.rules.specs.Calls.{over, builtIn, writeTable}
 use Rattle.recipe.specs.Calls.{keeps, fills, fitting-fine}
 use borrow.Author.Needs.{needs}
 use Rattle.recipe.proofs.table.built_in.Statement.{statement}
@@ -12,7 +12,7 @@ fitting-requires : tie.Need-fitting-requires
 fitting-requires c κs = search needs
 
 returns : tie.Need-returns
-unfolding writeBuiltIn
+unfolding writeTable
 returns c =
     let f = c .before .before in
     let out = f .before .args .out .now in
@@ -29,7 +29,7 @@ same-length : tie.Need-same-length
 same-length c = search needs
 
 returns-2 : tie.Need-returns-2
-unfolding writeBuiltIn
+unfolding writeTable
 returns-2 c =
     let d = c .before in
     let t = d .before .before in
