@@ -8,3 +8,5 @@ pub mod Magnitudes
 pub mod Wholes
 pub mod Loops
 pub mod Answers
+pub mod Blocks
+pub mod Ends

@@ -38,6 +38,14 @@ pub fn undone(d: i32, y: i32, q: i64) -> i64
     (d as i64) * ((y as i64) - q)
 }
 
+// b + q + share: an allowance, and what a stage adds to it.
+pub fn raised(b: i32, q: i64, share: i64) -> i64
+    requires { ⌜ SFits w64 b × SFits w64 (b +ℤ q) × SFits w64 ((b +ℤ q) +ℤ share) ⌝ }
+    ensures { λ r. ⌜ r ≡ (b +ℤ q) +ℤ share ⌝ }
+{
+    (b as i64) + q + share
+}
+
 // Whether a number lies between -most and most.
 pub fn is_within(z: i64, most: i32) -> bool
     requires { ⌜ T (nonNeg most) ⌝ }

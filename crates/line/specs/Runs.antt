@@ -6,22 +6,33 @@ use Prim.Native.Nat.{ℕ, suc, _+_, _-_, _<_}
 use native.Mathlib.Nat.{sub-self}
 use native.Mathlib.Omega.{arith}
 use lib.IntN.{ℤ}
-use Rattle.rules.specs.Factors.{factorAt, factorsFrom}
-use Rattle.rules.specs.Stages.{Stage, Ran, done, beyond, inside}
+use Rattle.rules.specs.Numbers.{count}
+use Rattle.rules.specs.Factors.{factorAt, factorsFrom, factors}
+use Rattle.rules.specs.Stages.{Stage, Ran, inside}
 use Rattle.rules.specs.Shapes.{lineStage, lineStages}
 use Rattle.rules.specs.Answers.{further}
+use Rattle.rules.specs.Calls.{ranMemory}
 use Rattle.rules.specs.Laws.Cuts.{lines-append}
-use Rattle.laws.specs.Accepted.{further-next}
-use Rattle.laws.specs.Sound.{factors-split}
+use Rattle.rules.specs.Laws.Good.{AllGood}
+use Rattle.rules.specs.Laws.Kinds.{lines-good}
+use Rattle.laws.specs.Accepted.{Accepted, further-next}
+use Rattle.laws.specs.Sound.{sheet-sound, factors-split}
+use Rattle.factor.specs.Blocks.{ranOk, ranStage}
 use Rattle.factor.specs.Loops.{Listed}
 use Rattle.line.specs.declared.steps.Stepped.{Stepped}
 use Rattle.line.specs.declared.runs.Outcome.{Outcome}
 use Rattle.line.specs.Steps.{stepped}
 
 -- what a run gives, as the code holds it; a refused run holds the block that it was given
-unfoldable pub outcome : Ran → List ℤ → Outcome
-outcome (done v) x = record { ok = true; stage = 0; block = v }
-outcome (beyond s) x = record { ok = false; stage = s; block = x }
+abbrev pub outcome : Ran → List ℤ → Outcome
+outcome ran x = record { ok = ranOk ran; stage = ranStage ran; block = ranMemory ran x }
+
+-- the stages of a sheet
+abbrev pub stagesOf : List ℤ → List Stage
+stagesOf s = lineStages (count s 0) (factors s)
+
+pub stages-good : {s : List ℤ} → Accepted s → AllGood (count s 0) (stagesOf s)
+stages-good a = lines-good (sheet-sound a)
 
 -- ---- what a step told
 pub step-no : (B n : ℕ) (new old : List ℤ) {r : Stepped} → r ≡ stepped B n new old → r .ok ≡ false → inside B n new ≡ false

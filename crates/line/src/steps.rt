@@ -2,9 +2,7 @@
 ghost use mathlib.Core.Path.{_≡_};
 ghost use mathlib.Core.Bool.{cond};
 ghost use Prim.Native.Nat.{_+_, _<_};
-ghost use lib.IntN.{pos, _+ℤ_};
-ghost use mir.Syntax.{w64};
-ghost use mir.Val.{SFits};
+ghost use lib.IntN.{pos};
 ghost use Rattle.rules.specs.Numbers.{bound, mostAllowance, at, count};
 ghost use Rattle.rules.specs.Stages.{fill, putBack};
 ghost use Rattle.factor.specs.Spots.{along};
@@ -20,6 +18,7 @@ use factor::place_of;
 use factor::rounding::applied;
 use factor::rounding::is_within;
 use factor::rounding::raise_line;
+use factor::rounding::raised;
 use factor::rounding::round_line;
 use factor::rounding::undone;
 use factor::row_of;
@@ -106,14 +105,6 @@ fn share_of(sheet: &[i32], p: usize, m: usize) -> i64
     ensures { λ r. ⌜ r ≡ cond (whole (now (sheet .entry)) p m) (pos 0) (pos 2048) ⌝ }
 {
     if are_whole(sheet, p, m) { 0 } else { 2048 }
-}
-
-// b + q + share
-fn raised(b: i32, q: i64, share: i64) -> i64
-    requires { ⌜ SFits w64 b × SFits w64 (b +ℤ q) × SFits w64 ((b +ℤ q) +ℤ share) ⌝ }
-    ensures { λ r. ⌜ r ≡ (b +ℤ q) +ℤ share ⌝ }
-{
-    (b as i64) + q + share
 }
 
 // The sum of the magnitudes of row m, each times the allowance of its column.

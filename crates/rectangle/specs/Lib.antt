@@ -8,6 +8,4 @@ pub mod Weights
 pub mod Order
 pub mod Links
 pub mod Runs
-pub mod Block
-pub mod Ends
 pub mod Promises

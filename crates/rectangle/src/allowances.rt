@@ -17,6 +17,7 @@ use factor::Row;
 use factor::Spot;
 use factor::magnitudes::are_whole;
 use factor::magnitudes::magnitudes;
+use factor::rounding::raised;
 use factor::row_of;
 
 // The quotient s / 16777216 upward.
@@ -75,14 +76,6 @@ fn share_of(a: bool, b: bool) -> i64
         }
     }
     2048
-}
-
-// b + q + share
-fn raised(b: i32, q: i64, share: i64) -> i64
-    requires { ⌜ SFits w64 b × SFits w64 (b +ℤ q) × SFits w64 ((b +ℤ q) +ℤ share) ⌝ }
-    ensures { λ r. ⌜ r ≡ (b +ℤ q) +ℤ share ⌝ }
-{
-    (b as i64) + q + share
 }
 
 // What the element's allowance becomes; whole says that its row has only multiples of 4096.

@@ -1,15 +1,13 @@
 // All pairs of factors of two checked sheets that match, one after another.
 ghost use mathlib.Core.Path.{_≡_};
-ghost use Prim.Native.Nat.{_<_};
-ghost use Rattle.rules.specs.Numbers.{bound, mostAllowance, count};
+ghost use Rattle.rules.specs.Numbers.{bound, mostAllowance};
 ghost use Rattle.rules.specs.Stages.{nearest, inside, allow, run, runForward, runInverse};
-ghost use Rattle.rules.specs.Answers.{start};
-ghost use Rattle.laws.specs.Accepted.{Accepted};
 ghost use Rattle.factor.specs.Reach.{Numbers};
 ghost use Rattle.rectangle.specs.Runs.{outcome, Matched, sizeOf, stagesOf};
 use crate::stages::allow_pair;
 use crate::stages::apply_pair;
 use crate::stages::undo_pair;
+use factor::start_of;
 use sheet::places::count_at;
 use sheet::places::next_factor;
 
@@ -49,18 +47,6 @@ pub fn apply_all(col: &[i32], row: &[i32], x: [i32; 256]) -> Outcome
         stage: 0,
         block: v,
     }
-}
-
-// Where factor f starts: the factors before it are passed one by one, since only a kind tells how long its factor is.
-fn start_of(sheet: &[i32], n: usize, f: usize) -> usize
-    requires { ⌜ Accepted (now sheet) × (n ≡ count (now sheet) 0) × (f < count (now sheet) 1) ⌝ }
-    ensures { λ r. ⌜ r ≡ start (now (sheet .entry)) f ⌝ }
-{
-    let mut i = 2;
-    for k in 0..f {
-        i = next_factor(sheet, n, i);
-    }
-    i
 }
 
 // Inverse: last to first.

@@ -11,12 +11,14 @@ use Rattle.rules.specs.Factors.{factors}
 use Rattle.rules.specs.Stages.{Ran, nearest, forward, inside, later, run, runForward}
 use Rattle.rules.specs.Shapes.{lineStages}
 use Rattle.rules.specs.Answers.{further, start}
+use Rattle.rules.specs.Calls.{ranMemory}
 use Rattle.rules.specs.Laws.Runs.{loop-start}
 use Rattle.laws.specs.Accepted.{Accepted, FactorRead, accepted-order, order-counts, count-counts, further-next}
+use Rattle.factor.specs.Blocks.{ranOk, ranStage}
 use Rattle.factor.specs.Reach.{Numbers, numbers-inside}
 use Rattle.factor.specs.Loops.{turn-on, turn-stop, turns-done}
 use Rattle.line.specs.Steps.{stepped}
-use Rattle.line.specs.Runs.{outcome, step-no, step-yes, at-stage, ahead, ahead-listed}
+use Rattle.line.specs.Runs.{step-no, step-yes, at-stage, ahead, ahead-listed}
 use Rattle.line.proofs.runs.apply_all.Statement.{statement}
 use Rattle.line.proofs.runs.apply_all.Tie as tie
 
@@ -74,7 +76,7 @@ told :
 told c = let l = c .before .before .loop in c .apply-factor .ensures .0 ∙ rw (l .inv .1, l .inv .3)
 
 returns : tie.Need-returns Inv-loop μ-loop
-unfolding outcome
+unfolding ranOk ranStage ranMemory
 returns c =
     let i = c .before .before .before in
     let l = i .before .loop in
@@ -107,7 +109,7 @@ loop-again c =
     )
 
 returns-2 : tie.Need-returns-2 Inv-loop μ-loop
-unfolding outcome
+unfolding ranOk ranStage ranMemory
 returns-2 c =
     let l = c .before .loop in
     let s = c .before .before .before .before in

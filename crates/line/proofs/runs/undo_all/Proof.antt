@@ -10,12 +10,14 @@ use Rattle.rules.specs.Numbers.{bound, mostOrder, count}
 use Rattle.rules.specs.Factors.{factors}
 use Rattle.rules.specs.Stages.{Ran, nearest, undo, inside, later, run, runInverse}
 use Rattle.rules.specs.Shapes.{lineStages}
+use Rattle.rules.specs.Calls.{ranMemory}
 use Rattle.rules.specs.Laws.Runs.{loop-start}
 use Rattle.laws.specs.Accepted.{FactorRead, accepted-order, order-counts, count-counts}
+use Rattle.factor.specs.Blocks.{ranOk, ranStage}
 use Rattle.factor.specs.Reach.{Numbers, numbers-inside}
 use Rattle.factor.specs.Loops.{turn-on, turn-stop, turns-done}
 use Rattle.line.specs.Steps.{stepped}
-use Rattle.line.specs.Runs.{outcome, step-no, step-yes, at-stage, behind, behind-listed}
+use Rattle.line.specs.Runs.{step-no, step-yes, at-stage, behind, behind-listed}
 use Rattle.line.proofs.runs.undo_all.Statement.{statement}
 use Rattle.line.proofs.runs.undo_all.Tie as tie
 
@@ -84,7 +86,7 @@ told c =
     c .undo-factor .ensures .0 ∙ rw (l .inv .1, c .before .start-of .ensures, last (c .before .before))
 
 returns : tie.Need-returns Inv-loop μ-loop
-unfolding outcome
+unfolding ranOk ranStage ranMemory
 returns c =
     let i = c .before .before .before .before in
     let l = i .before .loop in
@@ -113,7 +115,7 @@ loop-again c =
     )
 
 returns-2 : tie.Need-returns-2 Inv-loop μ-loop
-unfolding outcome
+unfolding ranOk ranStage ranMemory
 returns-2 c =
     let l = c .before .loop in
     let s = c .before .before .before .before in

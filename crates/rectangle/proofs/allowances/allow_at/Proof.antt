@@ -13,15 +13,7 @@ use Rattle.rectangle.specs.Sizes.{sizeSum, wholeRow, shareOf, allowAt, s
 use borrow.Author.Needs.{needs}
 use Rattle.rectangle.proofs.allowances.allow_at.Statement.{statement}
 use Rattle.rectangle.proofs.allowances.allow_at.Tie as tie
-use Rattle.rectangle.proofs.allowances.allow_at.Reads as own-reads
-use Rattle.rectangle.proofs.allowances.allow_at.Lts as lts
-use Rattle.rectangle.proofs.allowances.is_whole_row.Reads as is-whole-row-reads
-use Rattle.rectangle.proofs.allowances.raise_joint.Reads as raise-joint-reads
-use Rattle.rectangle.proofs.allowances.raised.Reads as raised-reads
-use Rattle.rectangle.proofs.allowances.share_of.Reads as share-of-reads
-use Rattle.rectangle.proofs.allowances.size_sum_at.Reads as size-sum-at-reads
 
--- src/allowances.rt:116:27
 size-sum-at-requires : tie.Need-size-sum-at-requires
 size-sum-at-requires c κs = rw (toZ-ofZ (c .fits .b)) (c .pre)
 
@@ -34,17 +26,14 @@ small s = size-sum-small (s .pre .0) (s .args .j) (s .pre .1) (s .pre .2) (s .pr
 value : (c : tie.After-size-sum-at) → toZ w64 (ofZ w64 (c .size-sum-at .result)) ≡ S (c .before)
 value c = back w64 _ (c .size-sum-at .ok) ∙ c .size-sum-at .ensures ∙ rw (toZ-ofZ (c .before .fits .b))
 
--- src/allowances.rt:116:15
 raise-joint-requires : tie.Need-raise-joint-requires
 raise-joint-requires c κs =
     let t = small (c .before) in
     rw (value c) (fits (within-+ t (within-pos 16777215)) tt, fits (within-shr 16777216 (within-+ t (within-pos 16777215))) tt)
 
--- src/allowances.rt:116:74
 is-whole-row-requires : tie.Need-is-whole-row-requires
 is-whole-row-requires c κs = search needs
 
--- src/allowances.rt:116:58
 share-of-requires : tie.Need-share-of-requires
 share-of-requires c κs = search needs
 
@@ -59,7 +48,6 @@ up-small s = within-shr 16777216 (within-+ (small s) (within-pos 16777215))
 share : (c : tie.After-share-of) → toZ w64 (ofZ w64 (c .share-of .result)) ≡ shareOf (c .before .before .before .before .args .whole) (wholeRow (c .before .before .before .before .args .row .now) (c .before .before .before .before .args .f) (c .before .before .before .before .args .j))
 share c = back w64 _ (c .share-of .ok) ∙ c .share-of .ensures ∙ rw (c .before .is-whole-row .ensures)
 
--- src/allowances.rt:116:5
 raised-requires : tie.Need-raised-requires
 raised-requires c κs =
     let s = c .before .before .before .before in
@@ -68,7 +56,6 @@ raised-requires c κs =
     let w = share-small (s .args .whole) (wholeRow (s .args .row .now) (s .args .f) (s .args .j)) in
     rw (up (c .before .before), share c, toZ-ofZ (s .fits .b)) (fits b tt, fits (within-+ b u) tt, fits (within-+ (within-+ b u) w) tt)
 
--- src/allowances.rt:112:1
 returns : tie.Need-returns
 unfolding allowAt
 returns c =

@@ -4,24 +4,16 @@ use native.Mathlib.Omega.{arith}
 use Rattle.rectangle.specs.Sizes.{entries-at}
 use Rattle.rectangle.proofs.allowances.is_whole_row.Statement.{statement}
 use Rattle.rectangle.proofs.allowances.is_whole_row.Tie as tie
-use Rattle.rectangle.proofs.allowances.is_whole_row.Reads as own-reads
-use Rattle.rectangle.proofs.allowances.is_whole_row.Lts as lts
-use Rattle.factor.proofs.magnitudes.are_whole.Reads as are-whole-reads
-use Rattle.factor.proofs.row_of.Reads as row-of-reads
 
--- src/allowances.rt:84:9
 row-of-requires : tie.Need-row-of-requires
 row-of-requires c κs = let h = c .pre .0 in let r = h .row (c .args .m) (c .pre .1) .room in (c .pre .1, h .order, omega arith)
 
--- src/allowances.rt:88:26
 add-are-whole : tie.Need-add-are-whole
 add-are-whole c = let h = entries-at (c .before .pre .0) (c .before .args .m) (c .before .pre .1) .few in rw (c .row-of .ensures) (omega arith)
 
--- src/allowances.rt:88:5
 are-whole-requires : tie.Need-are-whole-requires
 are-whole-requires c κs = rw (c .row-of .ensures) (entries-at (c .before .pre .0) (c .before .args .m) (c .before .pre .1))
 
--- src/allowances.rt:80:1
 returns : tie.Need-returns
 returns c = c .are-whole .ensures ∙ rw (c .before .row-of .ensures)
 

@@ -9,36 +9,25 @@ use Rattle.rectangle.specs.Sizes.{entries-at, sizes-band}
 use borrow.Author.Needs.{needs}
 use Rattle.rectangle.proofs.allowances.size_sum_at.Statement.{statement}
 use Rattle.rectangle.proofs.allowances.size_sum_at.Tie as tie
-use Rattle.rectangle.proofs.allowances.size_sum_at.Reads as own-reads
-use Rattle.rectangle.proofs.allowances.size_sum_at.Lts as lts
-use Rattle.factor.proofs.magnitudes.magnitudes.Reads as magnitudes-reads
-use Rattle.factor.proofs.row_of.Reads as row-of-reads
-use Rattle.rectangle.proofs.sums.joint_sum.Reads as joint-sum-reads
 
--- src/allowances.rt:59:9
 row-of-requires : tie.Need-row-of-requires
 row-of-requires c κs = let h = c .pre .0 in let r = h .row (c .args .j) (c .pre .1) .room in (c .pre .1, h .order, omega arith)
 
--- src/allowances.rt:63:33
 add-magnitudes : tie.Need-add-magnitudes
 add-magnitudes c = let h = entries-at (c .before .pre .0) (c .before .args .j) (c .before .pre .1) .few in rw (c .row-of .ensures) (omega arith)
 
--- src/allowances.rt:63:13
 magnitudes-requires : tie.Need-magnitudes-requires
 magnitudes-requires c κs = rw (c .row-of .ensures) (entries-at (c .before .pre .0) (c .before .args .j) (c .before .pre .1))
 
--- src/allowances.rt:65:9
 slice-aggregate-joint-sum : tie.Need-slice-aggregate-joint-sum
 slice-aggregate-joint-sum c = search needs
 
--- src/allowances.rt:64:5
 joint-sum-requires : tie.Need-joint-sum-requires
 joint-sum-requires c κs =
     let s = c .before .before .before in
     rw (c .before .magnitudes .ensures, c .before .before .row-of .ensures, toZ-ofZ (s .fits .b))
     (sizes-band (s .pre .0) (s .args .j) (s .pre .1), within-le (omega arith) (within-pos unit), s .pre .2, s .pre .3)
 
--- src/allowances.rt:55:1
 returns : tie.Need-returns
 returns c =
     back w64 _ (c .joint-sum .ok) ∙ c .joint-sum .ensures ∙ rw (c .before .before .magnitudes .ensures, c .before .before .before .row-of .ensures, toZ-ofZ (c .before .before .before .before .fits .b))

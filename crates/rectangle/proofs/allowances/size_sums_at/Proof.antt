@@ -5,36 +5,25 @@ use Rattle.rectangle.specs.Sizes.{entries-at, sizes-band}
 use borrow.Author.Needs.{needs}
 use Rattle.rectangle.proofs.allowances.size_sums_at.Statement.{statement}
 use Rattle.rectangle.proofs.allowances.size_sums_at.Tie as tie
-use Rattle.rectangle.proofs.allowances.size_sums_at.Reads as own-reads
-use Rattle.rectangle.proofs.allowances.size_sums_at.Lts as lts
-use Rattle.factor.proofs.magnitudes.magnitudes.Reads as magnitudes-reads
-use Rattle.factor.proofs.row_of.Reads as row-of-reads
-use Rattle.rectangle.proofs.sums.column_sums.Reads as column-sums-reads
 
--- src/allowances.rt:35:9
 row-of-requires : tie.Need-row-of-requires
 row-of-requires c κs = let h = c .pre .0 in let r = h .row (c .args .i) (c .pre .1) .room in (c .pre .1, h .order, omega arith)
 
--- src/allowances.rt:39:33
 add-magnitudes : tie.Need-add-magnitudes
 add-magnitudes c = let h = entries-at (c .before .pre .0) (c .before .args .i) (c .before .pre .1) .few in rw (c .row-of .ensures) (omega arith)
 
--- src/allowances.rt:39:13
 magnitudes-requires : tie.Need-magnitudes-requires
 magnitudes-requires c κs = rw (c .row-of .ensures) (entries-at (c .before .pre .0) (c .before .args .i) (c .before .pre .1))
 
--- src/allowances.rt:41:9
 slice-aggregate-column-sums : tie.Need-slice-aggregate-column-sums
 slice-aggregate-column-sums c = search needs
 
--- src/allowances.rt:40:5
 column-sums-requires : tie.Need-column-sums-requires
 column-sums-requires c κs =
     let s = c .before .before .before in
     rw (c .before .magnitudes .ensures, c .before .before .row-of .ensures)
     (sizes-band (s .pre .0) (s .args .i) (s .pre .1), s .pre .2, s .pre .3)
 
--- src/allowances.rt:31:1
 returns : tie.Need-returns
 returns c = c .column-sums .ensures ∙ rw (c .before .before .magnitudes .ensures, c .before .before .before .row-of .ensures)
 

@@ -10,14 +10,7 @@ use Rattle.rectangle.specs.Elements.{signAt, nudge, backAt, nudge-small,
 use borrow.Author.Needs.{needs}
 use Rattle.rectangle.proofs.elements.back_at.Statement.{statement}
 use Rattle.rectangle.proofs.elements.back_at.Tie as tie
-use Rattle.rectangle.proofs.elements.back_at.Reads as own-reads
-use Rattle.rectangle.proofs.elements.back_at.Lts as lts
-use Rattle.factor.proofs.rounding.undone.Reads as undone-reads
-use Rattle.rectangle.proofs.elements.both_signs.Reads as both-signs-reads
-use Rattle.rectangle.proofs.elements.nudge_at.Reads as nudge-at-reads
-use Rattle.rectangle.proofs.elements.sign_at.Reads as sign-at-reads
 
--- src/elements.rt:83:26
 sign-at-requires : tie.Need-sign-at-requires
 sign-at-requires c κs = search needs
 
@@ -30,11 +23,9 @@ product s = signs-times (s .pre .2) (s .pre .0 .sign (s .args .j) (s .pre .1))
 signs : (c : tie.After-both-signs) → toZ w32 (ofZ w32 (c .both-signs .result)) ≡ c .before .before .args .d *ℤ signAt (c .before .before .args .row .now) (c .before .before .args .f) (c .before .before .args .j)
 signs c = back w32 _ (c .both-signs .ok) ∙ c .both-signs .ensures ∙ rw (sign (c .before), toZ-ofZ (c .before .before .fits .d))
 
--- src/elements.rt:83:12
 both-signs-requires : tie.Need-both-signs-requires
 both-signs-requires c κs = rw (sign c, toZ-ofZ (c .before .fits .d)) (fits (sign-within (product (c .before))) tt)
 
--- src/elements.rt:83:50
 nudge-at-requires : tie.Need-nudge-at-requires
 nudge-at-requires c κs =
     let s = c .before .before in
@@ -43,7 +34,6 @@ nudge-at-requires c κs =
 told : (c : tie.After-nudge-at) → toZ w64 (ofZ w64 (c .nudge-at .result)) ≡ nudge (c .before .before .before .args .row .now) (c .before .before .before .args .f) (c .before .before .before .args .j) (c .before .before .before .args .d) (c .before .before .before .args .v .now) (c .before .before .before .args .x)
 told c = let s = c .before .before .before in back w64 _ (c .nudge-at .ok) ∙ c .nudge-at .ensures ∙ rw (toZ-ofZ (s .fits .d), toZ-ofZ (s .fits .x))
 
--- src/elements.rt:83:5
 undone-requires : tie.Need-undone-requires
 undone-requires c κs =
     let s = c .before .before .before in
@@ -53,7 +43,6 @@ undone-requires c κs =
     rw (told c, signs (c .before), toZ-ofZ (s .fits .x))
     (fits (sign-within e) tt, fits x tt, fits (within-- x q) tt, fits (within-sign e (within-- x q)) tt)
 
--- src/elements.rt:79:1
 returns : tie.Need-returns
 unfolding backAt
 returns c =

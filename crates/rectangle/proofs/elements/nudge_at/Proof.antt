@@ -14,19 +14,10 @@ use Rattle.rectangle.specs.Elements.{signAt, ownOf, nudge, own-small, ba
 use borrow.Author.Needs.{needs}
 use Rattle.rectangle.proofs.elements.nudge_at.Statement.{statement}
 use Rattle.rectangle.proofs.elements.nudge_at.Tie as tie
-use Rattle.rectangle.proofs.elements.nudge_at.Reads as own-reads
-use Rattle.rectangle.proofs.elements.nudge_at.Lts as lts
-use Rattle.factor.proofs.row_of.Reads as row-of-reads
-use Rattle.rectangle.proofs.elements.own_of.Reads as own-of-reads
-use Rattle.rectangle.proofs.elements.round_joint.Reads as round-joint-reads
-use Rattle.rectangle.proofs.elements.sign_at.Reads as sign-at-reads
-use Rattle.rectangle.proofs.sums.joint_sum.Reads as joint-sum-reads
 
--- src/elements.rt:67:32
 row-of-requires : tie.Need-row-of-requires
 row-of-requires c κs = let h = c .pre .0 in let r = h .row (c .args .j) (c .pre .1) .room in (c .pre .1, h .order, omega arith)
 
--- src/elements.rt:67:56
 sign-at-requires : tie.Need-sign-at-requires
 sign-at-requires c κs = search needs
 
@@ -39,19 +30,16 @@ own c = back w32 _ (c .own-of .ok) ∙ c .own-of .ensures ∙ ap ownOf (sign (c 
 up : (c : tie.After-own-of2) → toZ w32 (ofZ w32 (c .own-of2 .result)) ≡ ownOf (c .before .before .before .before .args .d)
 up c = back w32 _ (c .own-of2 .ok) ∙ c .own-of2 .ensures ∙ ap ownOf (toZ-ofZ (c .before .before .before .before .fits .d))
 
--- src/elements.rt:67:49
 own-of-requires : tie.Need-own-of-requires
 own-of-requires c κs =
     let s = c .before .before in
     rw (sign c) (fits (own-small (s .pre .0 .sign (s .args .j) (s .pre .1))) tt)
 
--- src/elements.rt:67:77
 own-of-requires-2 : tie.Need-own-of-requires-2
 own-of-requires-2 c κs =
     let s = c .before .before .before in
     rw (toZ-ofZ (s .fits .d)) (fits (own-small (s .pre .2)) tt)
 
--- src/elements.rt:67:17
 joint-sum-requires : tie.Need-joint-sum-requires
 joint-sum-requires c κs =
     let s = c .before .before .before .before in
@@ -69,13 +57,11 @@ value c =
 small : (s : tie.Start) → Within mostJoint (J s)
 small s = element-small (s .pre .0) (s .args .j) (s .pre .1) (s .pre .2) (s .pre .3) (s .pre .4)
 
--- src/elements.rt:67:5
 round-joint-requires : tie.Need-round-joint-requires
 round-joint-requires c κs =
     let t = small (c .before .before .before .before .before) in
     rw (value c) (fits (within-+ t (within-pos 8388608)) tt, fits (within-shr 16777216 (within-+ t (within-pos 8388608))) tt)
 
--- src/elements.rt:63:1
 returns : tie.Need-returns
 unfolding nudge R
 returns c = back w64 _ (c .round-joint .ok) ∙ c .round-joint .ensures ∙ rw (value (c .before))

@@ -3,22 +3,16 @@ use native.Mathlib.Omega.{arith}
 use borrow.Author.Needs.{needs}
 use Rattle.rectangle.proofs.elements.sign_at.Statement.{statement}
 use Rattle.rectangle.proofs.elements.sign_at.Tie as tie
-use Rattle.rectangle.proofs.elements.sign_at.Reads as own-reads
-use Rattle.rectangle.proofs.elements.sign_at.Lts as lts
 
--- src/elements.rt:36:11
 add-result : tie.Need-add-result
 add-result c = let h = c .pre .0 .there (c .args .m) (c .pre .1) in omega arith
 
--- src/elements.rt:36:5
 mul-result : tie.Need-mul-result
 mul-result c = let h = c .pre .0 .there (c .args .m) (c .pre .1) in omega arith
 
--- src/elements.rt:36:5
 shared-slice-copy-out-result : tie.Need-shared-slice-copy-out-result
 shared-slice-copy-out-result c = let h = c .pre .0 .there (c .args .m) (c .pre .1) in omega arith
 
--- src/elements.rt:31:1
 returns : tie.Need-returns
 returns c = search needs
 

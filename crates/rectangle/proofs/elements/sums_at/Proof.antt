@@ -9,18 +9,10 @@ use Rattle.rectangle.specs.Elements.{signAt, ownOf, own-small, band-at}
 use borrow.Author.Needs.{needs}
 use Rattle.rectangle.proofs.elements.sums_at.Statement.{statement}
 use Rattle.rectangle.proofs.elements.sums_at.Tie as tie
-use Rattle.rectangle.proofs.elements.sums_at.Reads as own-reads
-use Rattle.rectangle.proofs.elements.sums_at.Lts as lts
-use Rattle.factor.proofs.row_of.Reads as row-of-reads
-use Rattle.rectangle.proofs.elements.own_of.Reads as own-of-reads
-use Rattle.rectangle.proofs.elements.sign_at.Reads as sign-at-reads
-use Rattle.rectangle.proofs.sums.column_sums.Reads as column-sums-reads
 
--- src/elements.rt:59:22
 row-of-requires : tie.Need-row-of-requires
 row-of-requires c κs = let h = c .pre .0 in let r = h .row (c .args .i) (c .pre .1) .room in (c .pre .1, h .order, omega arith)
 
--- src/elements.rt:59:46
 sign-at-requires : tie.Need-sign-at-requires
 sign-at-requires c κs = search needs
 
@@ -30,19 +22,16 @@ sign c = back w32 _ (c .sign-at .ok) ∙ c .sign-at .ensures
 own : (c : tie.After-own-of) → toZ w32 (ofZ w32 (c .own-of .result)) ≡ ownOf (signAt (c .before .before .before .args .col .now) (c .before .before .before .args .f) (c .before .before .before .args .i))
 own c = back w32 _ (c .own-of .ok) ∙ c .own-of .ensures ∙ ap ownOf (sign (c .before))
 
--- src/elements.rt:59:39
 own-of-requires : tie.Need-own-of-requires
 own-of-requires c κs =
     let s = c .before .before in
     rw (sign c) (fits (own-small (s .pre .0 .sign (s .args .i) (s .pre .1))) tt)
 
--- src/elements.rt:59:5
 column-sums-requires : tie.Need-column-sums-requires
 column-sums-requires c κs =
     let s = c .before .before .before in
     rw (own c, c .before .before .row-of .ensures) (band-at (s .pre .0) (s .args .i) (s .pre .1), s .pre .2, numbers-le (omega arith) (s .pre .3))
 
--- src/elements.rt:55:1
 returns : tie.Need-returns
 returns c = c .column-sums .ensures ∙ rw (own (c .before), c .before .before .before .row-of .ensures)
 

@@ -19,12 +19,6 @@ use Rattle.rectangle.specs.Sizes.{allowAt, allowOf, size-sums-small}
 use Rattle.rectangle.specs.Went.{plain, inRow, plain-same, allow-here, in-block}
 use Rattle.rectangle.proofs.rows.allow_row.Statement.{statement}
 use Rattle.rectangle.proofs.rows.allow_row.Tie as tie
-use Rattle.rectangle.proofs.rows.allow_row.Reads as own-reads
-use Rattle.rectangle.proofs.rows.allow_row.Lts as lts
-use Rattle.factor.proofs.rounding.is_within.Reads as is-within-reads
-use Rattle.rectangle.proofs.allowances.allow_at.Reads as allow-at-reads
-use Rattle.rectangle.proofs.allowances.is_whole_row.Reads as is-whole-row-reads
-use Rattle.rectangle.proofs.allowances.size_sums_at.Reads as size-sums-at-reads
 
 abbrev Inv-loop : tie.InvT-loop
 Inv-loop col row fb i x y₀ n whole v j₀ y j = (j ≤ n) × (y ≡ walk (plain (λ e. allowAt row fb (e % fb .order) whole v (at x e))) (inRow n i) j y₀) × Numbers mostAllowance y
@@ -32,11 +26,9 @@ Inv-loop col row fb i x y₀ n whole v j₀ y j = (j ≤ n) × (y ≡ walk (plai
 abbrev μ-loop : tie.MeasureT-loop
 μ-loop col row fb i x y₀ n whole v j₀ y j = n - j
 
--- src/rows.rt:106:9
 is-whole-row-requires : tie.Need-is-whole-row-requires Inv-loop μ-loop
 is-whole-row-requires c κs = (c .pre .0, c .pre .2)
 
--- src/rows.rt:107:13
 size-sums-at-requires : tie.Need-size-sums-at-requires Inv-loop μ-loop
 size-sums-at-requires c κs = let s = c .before in (s .pre .0, s .pre .2, s .pre .1 .order, s .pre .3)
 
@@ -53,7 +45,6 @@ link c j l =
     allow-here (s .args .col .now) (s .args .fa) (s .args .row .now) (s .args .fb) (s .args .x .now) (s .args .i) j l
     ∙ rw (col-of 0 (s .args .fb .order) (s .args .i) j l, c .before .is-whole-row .ensures, c .size-sums-at .ensures)
 
--- src/rows.rt:108:5
 loop-holds : tie.Need-loop-holds Inv-loop μ-loop
 unfolding walk
 loop-holds c = (omega arith, refl, c .before .before .pre .4)
@@ -64,23 +55,18 @@ P c = c .before .before .before .before .args .i * c .before .before .before .be
 room : (c : tie.In-loop Inv-loop μ-loop) → P c < 256
 room c = let s = c .before .before .before .before in in-block (c .before .loop .j) (s .pre .0 .order) (s .pre .1 .order) (s .pre .2) (c .loop-test .taken)
 
--- src/rows.rt:109:17
 mul-e : tie.Need-mul-e Inv-loop μ-loop
 mul-e c = let h = room c in omega arith
 
--- src/rows.rt:109:17
 add-e : tie.Need-add-e Inv-loop μ-loop
 add-e c = let h = room c in omega arith
 
--- src/rows.rt:110:49
 mul-allow-at : tie.Need-mul-allow-at Inv-loop μ-loop
 mul-allow-at c = let h = room (c .before) in omega arith
 
--- src/rows.rt:110:49
 element-copy-out-allow-at : tie.Need-element-copy-out-allow-at Inv-loop μ-loop
 element-copy-out-allow-at c = let h = room (c .before) in omega arith
 
--- src/rows.rt:110:13
 allow-at-requires : tie.Need-allow-at-requires Inv-loop μ-loop
 allow-at-requires c κs =
     let l = c .before .before in
@@ -96,11 +82,9 @@ value c =
     back w64 _ (c .allow-at .ok) ∙ c .allow-at .ensures
     ∙ rw (reads w32 (s .pre .3 .small (P l)) tt, col-of 0 (s .args .fb .order) (s .args .i) (l .before .loop .j) (l .loop-test .taken))
 
--- src/rows.rt:111:13
 is-within-requires : tie.Need-is-within-requires Inv-loop μ-loop
 is-within-requires c κs = tt
 
--- src/rows.rt:112:13
 returns : tie.Need-returns Inv-loop μ-loop
 returns c =
     let l = c .before .before .before .before .before in
@@ -118,27 +102,21 @@ returns c =
 held : (c : tie.Else1 Inv-loop μ-loop) → Within mostAllowance (G (c .before .before .before .before .before .before .before) (P (c .before .before .before .before .before)))
 held c = within-test mostAllowance _ (ap (λ (z : ℤ). leb (natAbs z) mostAllowance) (sym (value (c .before .before))) ∙ sym (c .before .is-within .ensures) ∙ not-false _ (c .if1 .left))
 
--- src/rows.rt:114:16
 cast-y : tie.Need-cast-y Inv-loop μ-loop
 cast-y c = rw (value (c .before .before)) (fits (held c) tt)
 
--- src/rows.rt:114:9
 mul-t16 : tie.Need-mul-t16 Inv-loop μ-loop
 mul-t16 c = let h = room (c .before .before .before .before .before) in omega arith
 
--- src/rows.rt:114:9
 element-set-from-y : tie.Need-element-set-from-y Inv-loop μ-loop
 element-set-from-y c = let h = room (c .before .before .before .before .before) in omega arith
 
--- src/rows.rt:108:9
 add-j : tie.Need-add-j Inv-loop μ-loop
 add-j c = omega arith
 
--- src/rows.rt:108:5
 loop-less : tie.Need-loop-less Inv-loop μ-loop
 loop-less c = omega arith
 
--- src/rows.rt:108:5
 loop-again : tie.Need-loop-again Inv-loop μ-loop
 unfolding walk
 loop-again c =
@@ -148,7 +126,6 @@ loop-again c =
       rw (value (c .before .before), reads w32 (held c) tt) (numbers-set (l .y) (P (c .before .before .before .before .before)) (l .inv .2) (held c)),
     )
 
--- src/rows.rt:93:1
 returns-2 : tie.Need-returns-2 Inv-loop μ-loop
 returns-2 c =
     let s = c .before .before .before .before in

@@ -24,16 +24,6 @@ use Rattle.rectangle.specs.Elements.{signAt, ownOf, sumsAt, backOf, sums
 use Rattle.rectangle.specs.Went.{inRow, back-here, in-block}
 use Rattle.rectangle.proofs.rows.unweigh_row.Statement.{statement}
 use Rattle.rectangle.proofs.rows.unweigh_row.Tie as tie
-use Rattle.rectangle.proofs.rows.unweigh_row.Reads as own-reads
-use Rattle.rectangle.proofs.rows.unweigh_row.Lts as lts
-use Rattle.factor.proofs.place_of.Reads as place-of-reads
-use Rattle.factor.proofs.rounding.is_within.Reads as is-within-reads
-use Rattle.rectangle.proofs.elements.back_at.Reads as back-at-reads
-use Rattle.rectangle.proofs.elements.own_of.Reads as own-of-reads
-use Rattle.rectangle.proofs.elements.sign_at.Reads as sign-at-reads
-use Rattle.rectangle.proofs.elements.sums_at.Reads as sums-at-reads
-use Rattle.rectangle.proofs.rows.change.Reads as change-reads
-use Rattle.rectangle.proofs.sums.with_sum.Reads as with-sum-reads
 
 abbrev Inv-loop : tie.InvT-loop
 Inv-loop col fa row fb i x₀ n v₀ u₀ x v u = (u ≤ n) × (x ≡ walk (backOf col fa row fb) (λ t. inRow n i (placeOf (fb .kind) n (fb .row) t)) u x₀) × Numbers bound x × (v ≡ sumsAt col fa i x n)
@@ -41,16 +31,13 @@ Inv-loop col fa row fb i x₀ n v₀ u₀ x v u = (u ≤ n) × (x ≡ walk (back
 abbrev μ-loop : tie.MeasureT-loop
 μ-loop col fa row fb i x₀ n v₀ u₀ x v u = n - u
 
--- src/rows.rt:60:17
 sums-at-requires : tie.Need-sums-at-requires Inv-loop μ-loop
 sums-at-requires c κs = let s = c .before in (s .pre .0, s .pre .2, s .pre .1 .order, s .pre .4)
 
--- src/rows.rt:61:5
 loop-holds : tie.Need-loop-holds Inv-loop μ-loop
 unfolding walk
 loop-holds c = (omega arith, refl, c .before .before .pre .4, c .sums-at .ensures)
 
--- src/rows.rt:62:13
 place-of-requires : tie.Need-place-of-requires Inv-loop μ-loop
 place-of-requires c κs = (c .loop-test .taken, c .before .before .before .before .pre .3)
 
@@ -66,23 +53,18 @@ P c = c .before .before .before .before .before .args .i * c .before .before .be
 room : (c : tie.After-place-of Inv-loop μ-loop) → P c < 256
 room c = let s = c .before .before .before .before .before in in-block (c .place-of .result) (s .pre .0 .order) (s .pre .1 .order) (s .pre .2) (inside-order c)
 
--- src/rows.rt:63:17
 mul-e : tie.Need-mul-e Inv-loop μ-loop
 mul-e c = let h = room c in omega arith
 
--- src/rows.rt:63:17
 add-e : tie.Need-add-e Inv-loop μ-loop
 add-e c = let h = room c in omega arith
 
--- src/rows.rt:64:13
 sign-at-requires : tie.Need-sign-at-requires Inv-loop μ-loop
 sign-at-requires c κs = let s = c .before .before .before .before .before in (s .pre .0, s .pre .2)
 
--- src/rows.rt:65:17
 mul-y : tie.Need-mul-y Inv-loop μ-loop
 mul-y c = let h = room (c .before) in omega arith
 
--- src/rows.rt:65:17
 element-copy-out-y : tie.Need-element-copy-out-y Inv-loop μ-loop
 element-copy-out-y c = let h = room (c .before) in omega arith
 
@@ -102,7 +84,6 @@ old c = c .before .before .loop .inv .2 .small (P c)
 columns : (c : tie.After-place-of Inv-loop μ-loop) → Numbers mostColumn (sumsAt (c .before .before .before .before .before .args .col .now) (c .before .before .before .before .before .args .fa) (c .before .before .before .before .before .args .i) (c .before .before .loop .x) (c .before .before .before .before .before .args .fb .order))
 columns c = let s = c .before .before .before .before .before in sums-small (s .pre .0) (s .args .i) (s .pre .2) (s .args .fb .order) (c .before .before .loop .inv .2)
 
--- src/rows.rt:66:13
 back-at-requires : tie.Need-back-at-requires Inv-loop μ-loop
 back-at-requires c κs =
     let p = c .before .before .before in
@@ -118,11 +99,9 @@ value c =
     ∙ rw (sign (c .before .before .before), p .before .before .loop .inv .3, reads w32 (old p) tt)
     (sym (back-here (s .args .col .now) (s .args .fa) (s .args .row .now) (s .args .fb) (p .before .before .loop .x) (s .args .i) (p .place-of .result) (inside-order p)))
 
--- src/rows.rt:67:13
 is-within-requires : tie.Need-is-within-requires Inv-loop μ-loop
 is-within-requires c κs = tt
 
--- src/rows.rt:68:13
 returns : tie.Need-returns Inv-loop μ-loop
 returns c =
     let p = c .before .before .before .before .before .before in
@@ -140,34 +119,27 @@ returns c =
 held : (c : tie.Else1 Inv-loop μ-loop) → Within bound (F (c .before .before .before .before .before .before))
 held c = within-test bound _ (ap (λ (z : ℤ). leb (natAbs z) bound) (sym (value (c .before .before))) ∙ sym (c .before .is-within .ensures) ∙ not-false _ (c .if1 .left))
 
--- src/rows.rt:70:16
 cast-x : tie.Need-cast-x Inv-loop μ-loop
 cast-x c = rw (value (c .before .before)) (fits (held c) tt)
 
--- src/rows.rt:70:9
 mul-with-sum : tie.Need-mul-with-sum Inv-loop μ-loop
 mul-with-sum c = let h = room (c .before .before .before .before .before .before) in omega arith
 
--- src/rows.rt:70:9
 element-set-from-with-sum : tie.Need-element-set-from-with-sum Inv-loop μ-loop
 element-set-from-with-sum c = let h = room (c .before .before .before .before .before .before) in omega arith
 
--- src/rows.rt:71:25
 mul-with-sum-2 : tie.Need-mul-with-sum-2 Inv-loop μ-loop
 mul-with-sum-2 c = let h = inside-order (c .before .before .before .before .before .before) in let o = c .before .before .before .before .before .before .before .before .before .before .before .pre .1 .order in omega arith
 
--- src/rows.rt:71:25
 array-copy-out-with-sum : tie.Need-array-copy-out-with-sum Inv-loop μ-loop
 array-copy-out-with-sum c = let h = inside-order (c .before .before .before .before .before .before) in let o = c .before .before .before .before .before .before .before .before .before .before .before .pre .1 .order in omega arith
 
--- src/rows.rt:71:31
 own-of-requires : tie.Need-own-of-requires Inv-loop μ-loop
 own-of-requires c κs =
     let e = c .before in
     let s = e .before .before .before .before .before .before .before .before .before .before .before in
     rw (sign (e .before .before .before .before .before)) (fits (own-small (s .pre .0 .sign (s .args .i) (s .pre .2))) tt)
 
--- src/rows.rt:71:42
 change-requires : tie.Need-change-requires Inv-loop μ-loop
 change-requires c κs =
     let e = c .before .before in
@@ -184,7 +156,6 @@ changed c =
 small : (c : tie.After-place-of Inv-loop μ-loop) → Within mostColumn (at (c .before .before .loop .v) (c .place-of .result))
 small c = rw (c .before .before .loop .inv .3) (columns c .small (c .place-of .result))
 
--- src/rows.rt:71:16
 with-sum-requires : tie.Need-with-sum-requires Inv-loop μ-loop
 with-sum-requires c κs =
     let e = c .before .before .before in
@@ -195,19 +166,15 @@ with-sum-requires c κs =
     rw (reads w64 (small p) tt, own (c .before), changed c)
     (fits o tt, fits (within-* o w) tt, fits (within-+ (small p) (within-* o w)) tt)
 
--- src/rows.rt:71:9
 mul-v : tie.Need-mul-v Inv-loop μ-loop
 mul-v c = let e = c .before .before .before .before in let h = inside-order (e .before .before .before .before .before .before) in let o = e .before .before .before .before .before .before .before .before .before .before .before .pre .1 .order in omega arith
 
--- src/rows.rt:71:9
 array-set-from-v : tie.Need-array-set-from-v Inv-loop μ-loop
 array-set-from-v c = let e = c .before .before .before .before in let h = inside-order (e .before .before .before .before .before .before) in let o = e .before .before .before .before .before .before .before .before .before .before .before .pre .1 .order in omega arith
 
--- src/rows.rt:61:9
 add-u : tie.Need-add-u Inv-loop μ-loop
 add-u c = omega arith
 
--- src/rows.rt:61:5
 loop-less : tie.Need-loop-less Inv-loop μ-loop
 loop-less c = omega arith
 
@@ -224,7 +191,6 @@ sum-is c =
 long : (c : tie.After-place-of Inv-loop μ-loop) → length (c .before .before .loop .x) ≡ 256
 long c = ap length (c .before .before .loop .inv .1) ∙ length-walk _ _ (c .before .before .loop .u) _ ∙ c .before .before .before .before .before .pre .5
 
--- src/rows.rt:61:5
 loop-again : tie.Need-loop-again Inv-loop μ-loop
 unfolding walk
 loop-again c =
@@ -239,7 +205,6 @@ loop-again c =
           (sym (columns-set (band-at (s .pre .0) (s .args .i) (s .pre .2)) (l .x) (s .args .fb .order) (p .place-of .result) (F p) (inside-order p) (s .pre .1 .order) (let h = room p in omega (arith, long p)))),
     )
 
--- src/rows.rt:53:1
 returns-2 : tie.Need-returns-2 Inv-loop μ-loop
 returns-2 c =
     let s = c .before .before .before .before in

@@ -17,12 +17,6 @@ use Rattle.rectangle.specs.Elements.{signAt, outOf, sums-small}
 use Rattle.rectangle.specs.Went.{plain, inRow, out-here, in-block}
 use Rattle.rectangle.proofs.rows.weigh_row.Statement.{statement}
 use Rattle.rectangle.proofs.rows.weigh_row.Tie as tie
-use Rattle.rectangle.proofs.rows.weigh_row.Reads as own-reads
-use Rattle.rectangle.proofs.rows.weigh_row.Lts as lts
-use Rattle.factor.proofs.rounding.is_within.Reads as is-within-reads
-use Rattle.rectangle.proofs.elements.out_at.Reads as out-at-reads
-use Rattle.rectangle.proofs.elements.sign_at.Reads as sign-at-reads
-use Rattle.rectangle.proofs.elements.sums_at.Reads as sums-at-reads
 
 abbrev Inv-loop : tie.InvT-loop
 Inv-loop col fa row fb i x y₀ n v j₀ y j = (j ≤ n) × (y ≡ walk (plain (outOf col fa row fb x)) (inRow n i) j y₀) × Numbers bound y
@@ -30,11 +24,9 @@ Inv-loop col fa row fb i x y₀ n v j₀ y j = (j ≤ n) × (y ≡ walk (plain (
 abbrev μ-loop : tie.MeasureT-loop
 μ-loop col fa row fb i x y₀ n v j₀ y j = n - j
 
--- src/rows.rt:26:13
 sums-at-requires : tie.Need-sums-at-requires Inv-loop μ-loop
 sums-at-requires c κs = (c .pre .0, c .pre .2, c .pre .1 .order, c .pre .3)
 
--- src/rows.rt:27:5
 loop-holds : tie.Need-loop-holds Inv-loop μ-loop
 unfolding walk
 loop-holds c = (omega arith, refl, c .before .pre .4)
@@ -42,23 +34,18 @@ loop-holds c = (omega arith, refl, c .before .pre .4)
 room : (c : tie.In-loop Inv-loop μ-loop) → c .before .before .before .args .i * c .before .before .before .args .fb .order + c .before .loop .j < 256
 room c = let s = c .before .before .before in in-block (c .before .loop .j) (s .pre .0 .order) (s .pre .1 .order) (s .pre .2) (c .loop-test .taken)
 
--- src/rows.rt:28:17
 mul-e : tie.Need-mul-e Inv-loop μ-loop
 mul-e c = let h = room c in omega arith
 
--- src/rows.rt:28:17
 add-e : tie.Need-add-e Inv-loop μ-loop
 add-e c = let h = room c in omega arith
 
--- src/rows.rt:29:36
 sign-at-requires : tie.Need-sign-at-requires Inv-loop μ-loop
 sign-at-requires c κs = let s = c .before .before .before in (s .pre .0, s .pre .2)
 
--- src/rows.rt:29:61
 mul-out-at : tie.Need-mul-out-at Inv-loop μ-loop
 mul-out-at c = let h = room (c .before .before) in omega arith
 
--- src/rows.rt:29:61
 element-copy-out-out-at : tie.Need-element-copy-out-out-at Inv-loop μ-loop
 element-copy-out-out-at c = let h = room (c .before .before) in omega arith
 
@@ -71,7 +58,6 @@ F c = let s = c .before .before .before in outOf (s .args .col .now) (s .args .f
 sign : (c : tie.After-sign-at Inv-loop μ-loop) → toZ w32 (ofZ w32 (c .sign-at .result)) ≡ signAt (c .before .before .before .before .args .col .now) (c .before .before .before .before .args .fa) (c .before .before .before .before .args .i)
 sign c = back w32 _ (c .sign-at .ok) ∙ c .sign-at .ensures
 
--- src/rows.rt:29:13
 out-at-requires : tie.Need-out-at-requires Inv-loop μ-loop
 out-at-requires c κs =
     let l = c .before .before .before in
@@ -88,11 +74,9 @@ value c =
     ∙ rw (sign (c .before .before .before), l .before .before .sums-at .ensures, reads w32 (s .pre .3 .small (P l)) tt)
     (sym (out-here (s .args .col .now) (s .args .fa) (s .args .row .now) (s .args .fb) (s .args .x .now) (s .args .i) (l .before .loop .j) (l .loop-test .taken)))
 
--- src/rows.rt:30:13
 is-within-requires : tie.Need-is-within-requires Inv-loop μ-loop
 is-within-requires c κs = tt
 
--- src/rows.rt:31:13
 returns : tie.Need-returns Inv-loop μ-loop
 returns c =
     let l = c .before .before .before .before .before .before in
@@ -108,27 +92,21 @@ returns c =
 held : (c : tie.Else1 Inv-loop μ-loop) → Within bound (F (c .before .before .before .before .before .before))
 held c = within-test bound _ (ap (λ (z : ℤ). leb (natAbs z) bound) (sym (value (c .before .before))) ∙ sym (c .before .is-within .ensures) ∙ not-false _ (c .if1 .left))
 
--- src/rows.rt:33:16
 cast-y : tie.Need-cast-y Inv-loop μ-loop
 cast-y c = rw (value (c .before .before)) (fits (held c) tt)
 
--- src/rows.rt:33:9
 mul-t15 : tie.Need-mul-t15 Inv-loop μ-loop
 mul-t15 c = let h = room (c .before .before .before .before .before .before) in omega arith
 
--- src/rows.rt:33:9
 element-set-from-y : tie.Need-element-set-from-y Inv-loop μ-loop
 element-set-from-y c = let h = room (c .before .before .before .before .before .before) in omega arith
 
--- src/rows.rt:27:9
 add-j : tie.Need-add-j Inv-loop μ-loop
 add-j c = omega arith
 
--- src/rows.rt:27:5
 loop-less : tie.Need-loop-less Inv-loop μ-loop
 loop-less c = omega arith
 
--- src/rows.rt:27:5
 loop-again : tie.Need-loop-again Inv-loop μ-loop
 unfolding walk
 loop-again c =
@@ -138,7 +116,6 @@ loop-again c =
       rw (value (c .before .before), reads w32 (held c) tt) (numbers-set (l .y) (P (c .before .before .before .before .before .before)) (l .inv .2) (held c)),
     )
 
--- src/rows.rt:19:1
 returns-2 : tie.Need-returns-2 Inv-loop μ-loop
 returns-2 c =
     let s = c .before .before .before in

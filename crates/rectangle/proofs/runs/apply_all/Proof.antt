@@ -6,20 +6,17 @@ use native.Mathlib.Omega.{arith}
 use Rattle.rules.specs.Numbers.{bound, count}
 use Rattle.rules.specs.Stages.{nearest, forward, inside, later, run, runForward}
 use Rattle.rules.specs.Answers.{further, start}
+use Rattle.rules.specs.Calls.{ranMemory}
 use Rattle.rules.specs.Laws.Runs.{loop-start}
 use Rattle.laws.specs.Accepted.{order-counts, count-counts, further-next}
+use Rattle.factor.specs.Blocks.{ranOk, ranStage}
 use Rattle.factor.specs.Reach.{Numbers, numbers-inside}
 use Rattle.factor.specs.Loops.{turn-on, turn-stop, turns-done}
 use Rattle.rectangle.specs.Steps.{stepped}
 use Rattle.rectangle.specs.Links.{Paired}
-use Rattle.rectangle.specs.Runs.{outcome, step-no, step-yes, paired, sizeOf, stagesOf, at-stage, ahead, ahead-listed, ahead-all}
+use Rattle.rectangle.specs.Runs.{step-no, step-yes, paired, sizeOf, stagesOf, at-stage, ahead, ahead-listed, ahead-all}
 use Rattle.rectangle.proofs.runs.apply_all.Statement.{statement}
 use Rattle.rectangle.proofs.runs.apply_all.Tie as tie
-use Rattle.rectangle.proofs.runs.apply_all.Reads as own-reads
-use Rattle.rectangle.proofs.runs.apply_all.Lts as lts
-use Rattle.rectangle.proofs.stages.apply_pair.Reads as apply-pair-reads
-use Rattle.sheet.proofs.places.count_at.Reads as count-at-reads
-use Rattle.sheet.proofs.places.next_factor.Reads as next-factor-reads
 
 abbrev Inv-loop : tie.InvT-loop
 Inv-loop col row x n1 n2 many v₀ i₀ j₀ t₀ v i j t =
@@ -36,19 +33,15 @@ here c =
     let l = c .before .loop in
     rw (l .inv .1, l .inv .2, l .inv .4, l .inv .5) (paired (c .before .before .before .before .before .pre .0) (l .t) (rw (l .inv .3) at (c .loop-test .taken)))
 
--- src/runs.rt:28:9
 count-at-requires : tie.Need-count-at-requires Inv-loop μ-loop
 count-at-requires c κs = order-counts (c .pre .0 .column)
 
--- src/runs.rt:29:9
 count-at-requires-2 : tie.Need-count-at-requires-2 Inv-loop μ-loop
 count-at-requires-2 c κs = order-counts (c .before .pre .0 .row)
 
--- src/runs.rt:30:9
 count-at-requires-3 : tie.Need-count-at-requires-3 Inv-loop μ-loop
 count-at-requires-3 c κs = count-counts (c .before .before .pre .0 .column)
 
--- src/runs.rt:34:5
 loop-holds : tie.Need-loop-holds Inv-loop μ-loop
 unfolding further runForward
 loop-holds c =
@@ -63,11 +56,9 @@ loop-holds c =
       loop-start _ _ _ _ ∙ rw (ahead-all (s .args .col .now) (s .args .row .now) (s .pre .0)),
     )
 
--- src/runs.rt:35:13
 apply-pair-requires : tie.Need-apply-pair-requires Inv-loop μ-loop
 apply-pair-requires c κs = (here c, c .before .loop .inv .6)
 
--- src/runs.rt:39:24
 add-t13 : tie.Need-add-t13 Inv-loop μ-loop
 add-t13 c = let l = c .before .before .before .before .loop in omega arith
 
@@ -80,9 +71,8 @@ told :
     c .apply-pair .result ≡ stepped bound N (forward nearest N (at-stage (s .args .col .now) (s .args .row .now) (l .t)) (l .v)) (l .v)
 told c = let l = c .before .before .loop in c .apply-pair .ensures .0 ∙ rw (l .inv .1, l .inv .2, l .inv .4, l .inv .5)
 
--- src/runs.rt:37:13
 returns : tie.Need-returns Inv-loop μ-loop
-unfolding outcome
+unfolding ranOk ranStage ranMemory
 returns c =
     let i = c .before .before .before in
     let l = i .before .loop in
@@ -90,23 +80,18 @@ returns c =
     rw (turn-stop _ _ (ahead-listed (s .args .col .now) (s .args .row .now)) (l .t) (l .v) (rw (l .inv .3) at (i .loop-test .taken)) (numbers-inside _ (l .inv .6))
     (step-no _ _ _ _ (told (c .before .before)) (not-true _ (c .if1 .taken))) (l .inv .7))
 
--- src/runs.rt:44:9
 next-factor-requires : tie.Need-next-factor-requires Inv-loop μ-loop
 next-factor-requires c κs = let i = c .before .before .before .before in let p = here i in (p .some1, p .most1, p .column)
 
--- src/runs.rt:45:9
 next-factor-requires-2 : tie.Need-next-factor-requires-2 Inv-loop μ-loop
 next-factor-requires-2 c κs = let i = c .before .before .before .before .before in let p = here i in (p .some2, p .most2, p .row)
 
--- src/runs.rt:34:9
 add-t : tie.Need-add-t Inv-loop μ-loop
 add-t c = omega arith
 
--- src/runs.rt:34:5
 loop-less : tie.Need-loop-less Inv-loop μ-loop
 loop-less c = omega arith
 
--- src/runs.rt:34:5
 loop-again : tie.Need-loop-again Inv-loop μ-loop
 loop-again c =
     let i = c .before .before .before .before .before .before in
@@ -124,9 +109,8 @@ loop-again c =
           (turn-on _ _ (ahead-listed (s .args .col .now) (s .args .row .now)) (l .t) (l .v) (rw (l .inv .3) at (i .loop-test .taken)) (numbers-inside _ (l .inv .6)) (l .inv .7)),
     )
 
--- src/runs.rt:24:1
 returns-2 : tie.Need-returns-2 Inv-loop μ-loop
-unfolding outcome
+unfolding ranOk ranStage ranMemory
 returns-2 c =
     let l = c .before .loop in
     let s = c .before .before .before .before .before in

@@ -5,21 +5,18 @@ use Prim.Native.Nat.{suc, _-_, _≤_}
 use native.Mathlib.Omega.{arith}
 use Rattle.rules.specs.Numbers.{bound, count}
 use Rattle.rules.specs.Stages.{nearest, undo, inside, later, run, runInverse}
+use Rattle.rules.specs.Calls.{ranMemory}
 use Rattle.rules.specs.Laws.Runs.{loop-start}
 use Rattle.laws.specs.Accepted.{order-counts, count-counts}
 use Rattle.laws.specs.Sound.{counts-agree}
+use Rattle.factor.specs.Blocks.{ranOk, ranStage}
 use Rattle.factor.specs.Reach.{Numbers, numbers-inside}
 use Rattle.factor.specs.Loops.{turn-on, turn-stop, turns-done}
 use Rattle.rectangle.specs.Steps.{stepped}
 use Rattle.rectangle.specs.Links.{Paired}
-use Rattle.rectangle.specs.Runs.{outcome, step-no, step-yes, paired, sizeOf, stagesOf, at-stage, behind, behind-listed, behind-all}
+use Rattle.rectangle.specs.Runs.{step-no, step-yes, paired, sizeOf, stagesOf, at-stage, behind, behind-listed, behind-all}
 use Rattle.rectangle.proofs.runs.undo_all.Statement.{statement}
 use Rattle.rectangle.proofs.runs.undo_all.Tie as tie
-use Rattle.rectangle.proofs.runs.undo_all.Reads as own-reads
-use Rattle.rectangle.proofs.runs.undo_all.Lts as lts
-use Rattle.rectangle.proofs.runs.start_of.Reads as start-of-reads
-use Rattle.rectangle.proofs.stages.undo_pair.Reads as undo-pair-reads
-use Rattle.sheet.proofs.places.count_at.Reads as count-at-reads
 
 abbrev Inv-loop : tie.InvT-loop
 Inv-loop col row y n1 n2 many v₀ t₀ v t =
@@ -40,19 +37,15 @@ here c =
     let l = i .before .loop in
     rw (c .before .start-of .ensures, c .start-of2 .ensures, l .inv .1, l .inv .2) (paired (i .before .before .before .before .before .pre .0) _ (omega (arith, l .inv .3)))
 
--- src/runs.rt:71:9
 count-at-requires : tie.Need-count-at-requires Inv-loop μ-loop
 count-at-requires c κs = order-counts (c .pre .0 .column)
 
--- src/runs.rt:72:9
 count-at-requires-2 : tie.Need-count-at-requires-2 Inv-loop μ-loop
 count-at-requires-2 c κs = order-counts (c .before .pre .0 .row)
 
--- src/runs.rt:73:9
 count-at-requires-3 : tie.Need-count-at-requires-3 Inv-loop μ-loop
 count-at-requires-3 c κs = count-counts (c .before .before .pre .0 .column)
 
--- src/runs.rt:75:5
 loop-holds : tie.Need-loop-holds Inv-loop μ-loop
 unfolding runInverse
 loop-holds c =
@@ -65,28 +58,22 @@ loop-holds c =
       loop-start _ _ _ _ ∙ rw (behind-all (s .args .col .now) (s .args .row .now) (s .pre .0)),
     )
 
--- src/runs.rt:76:17
 sub-f : tie.Need-sub-f Inv-loop μ-loop
 sub-f c = omega arith
 
--- src/runs.rt:76:17
 sub-f-2 : tie.Need-sub-f-2 Inv-loop μ-loop
 sub-f-2 c = omega arith
 
--- src/runs.rt:77:13
 start-of-requires : tie.Need-start-of-requires Inv-loop μ-loop
 start-of-requires c κs = let l = c .before .loop in let s = c .before .before .before .before .before in (s .pre .0 .column, l .inv .1, omega (arith, l .inv .3))
 
--- src/runs.rt:78:13
 start-of-requires-2 : tie.Need-start-of-requires-2 Inv-loop μ-loop
 start-of-requires-2 c κs =
     let l = c .before .before .loop in let s = c .before .before .before .before .before .before in (s .pre .0 .row, l .inv .2, omega (arith, l .inv .3, counts-agree _ _ (s .pre .0 .match)))
 
--- src/runs.rt:79:13
 undo-pair-requires : tie.Need-undo-pair-requires Inv-loop μ-loop
 undo-pair-requires c κs = (here c, c .before .before .before .loop .inv .4)
 
--- src/runs.rt:83:24
 add-t15 : tie.Need-add-t15 Inv-loop μ-loop
 add-t15 c = let l = c .before .before .before .before .before .before .loop in omega arith
 
@@ -101,9 +88,8 @@ told c =
     let l = c .before .before .before .before .loop in
     c .undo-pair .ensures .0 ∙ rw (l .inv .1, l .inv .2, c .before .before .start-of .ensures, c .before .start-of2 .ensures, last (c .before .before .before))
 
--- src/runs.rt:81:13
 returns : tie.Need-returns Inv-loop μ-loop
-unfolding outcome
+unfolding ranOk ranStage ranMemory
 returns c =
     let i = c .before .before .before .before .before in
     let l = i .before .loop in
@@ -111,15 +97,12 @@ returns c =
     rw (turn-stop _ _ (behind-listed (s .args .col .now) (s .args .row .now)) (l .t) (l .v) (rw (l .inv .3) at (i .loop-test .taken)) (numbers-inside _ (l .inv .4))
     (step-no _ _ _ _ (told (c .before .before)) (not-true _ (c .if1 .taken))) (l .inv .5))
 
--- src/runs.rt:75:9
 add-t : tie.Need-add-t Inv-loop μ-loop
 add-t c = omega arith
 
--- src/runs.rt:75:5
 loop-less : tie.Need-loop-less Inv-loop μ-loop
 loop-less c = omega arith
 
--- src/runs.rt:75:5
 loop-again : tie.Need-loop-again Inv-loop μ-loop
 loop-again c =
     let i = c .before .before .before .before .before .before in
@@ -135,9 +118,8 @@ loop-again c =
           (turn-on _ _ (behind-listed (s .args .col .now) (s .args .row .now)) (l .t) (l .v) (rw (l .inv .3) at (i .loop-test .taken)) (numbers-inside _ (l .inv .4)) (l .inv .5)),
     )
 
--- src/runs.rt:67:1
 returns-2 : tie.Need-returns-2 Inv-loop μ-loop
-unfolding outcome
+unfolding ranOk ranStage ranMemory
 returns-2 c =
     let l = c .before .loop in
     let s = c .before .before .before .before .before in

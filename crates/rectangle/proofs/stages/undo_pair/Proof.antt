@@ -14,22 +14,13 @@ use Rattle.rectangle.specs.Links.{moved, unpermute-is, unweigh-is}
 use borrow.Author.Needs.{needs}
 use Rattle.rectangle.proofs.stages.undo_pair.Statement.{statement}
 use Rattle.rectangle.proofs.stages.undo_pair.Tie as tie
-use Rattle.rectangle.proofs.stages.undo_pair.Reads as own-reads
-use Rattle.rectangle.proofs.stages.undo_pair.Lts as lts
-use Rattle.factor.proofs.is_move.Reads as is-move-reads
-use Rattle.factor.proofs.spot_at.Reads as spot-at-reads
-use Rattle.rectangle.proofs.moves.unpermute.Reads as unpermute-reads
-use Rattle.rectangle.proofs.steps.unweigh.Reads as unweigh-reads
 
--- src/stages.rt:43:9
 spot-at-requires : tie.Need-spot-at-requires
 spot-at-requires c κs = search needs
 
--- src/stages.rt:44:9
 spot-at-requires-2 : tie.Need-spot-at-requires-2
 spot-at-requires-2 c κs = search needs
 
--- src/stages.rt:45:8
 is-move-requires : tie.Need-is-move-requires
 is-move-requires c κs = search needs
 
@@ -42,7 +33,6 @@ no-kind c = kind-no (c .before .before .before .before .pre .0 .column) (c .befo
 len : (s : tie.Start) → length (s .args .y) ≡ 256
 len s = search needs
 
--- src/stages.rt:46:13
 unpermute-requires : tie.Need-unpermute-requires
 unpermute-requires c κs =
     let s = c .before .before .before .before in
@@ -50,7 +40,6 @@ unpermute-requires c κs =
     let q = yes-kind c in
     rw (c .before .before .before .spot-at .ensures, c .before .before .spot-at2 .ensures) (moves (p .most1) (p .column) q, moves (p .most2) (p .row) (sym (p .match) ∙ q))
 
--- src/stages.rt:47:9
 returns : tie.Need-returns
 unfolding spotAt spotBy
 returns c =
@@ -59,7 +48,6 @@ returns c =
     rw (← (unpermute-is _ _ _ _ _ _ (s .pre .0 .match) q (s .args .y)))
     (moved _ (s .args .y) (c .unpermute .ensures ∙ rw (c .before .before .before .before .spot-at .ensures, c .before .before .before .spot-at2 .ensures)) (numbers-put _ _ (s .pre .1)))
 
--- src/stages.rt:49:5
 unweigh-requires : tie.Need-unweigh-requires
 unfolding spotAt spotBy
 unweigh-requires c κs =
@@ -69,7 +57,6 @@ unweigh-requires c κs =
     rw (c .before .before .before .spot-at .ensures, c .before .before .spot-at2 .ensures)
     (lies (p .most1) (p .column) q, lies (p .most2) (p .row) (λ e. q (p .match ∙ e)), row-inside (p .some1) (p .column), row-inside (p .some2) (p .row), s .pre .1)
 
--- src/stages.rt:37:1
 returns-2 : tie.Need-returns-2
 unfolding spotAt spotBy
 returns-2 c =

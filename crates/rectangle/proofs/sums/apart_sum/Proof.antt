@@ -13,9 +13,6 @@ use Rattle.rules.specs.Numbers.{at}
 use Rattle.rectangle.specs.Sums.{apart-small}
 use Rattle.rectangle.proofs.sums.apart_sum.Statement.{statement}
 use Rattle.rectangle.proofs.sums.apart_sum.Tie as tie
-use Rattle.rectangle.proofs.sums.apart_sum.Reads as own-reads
-use Rattle.rectangle.proofs.sums.apart_sum.Lts as lts
-use Rattle.rectangle.proofs.sums.with_number.Reads as with-number-reads
 
 abbrev Inv-loop : tie.InvT-loop
 Inv-loop a p x k n m sum₀ j₀ sum′ j = (j ≤ m) × (sum′ ≡ ofZ w64 (sum j (λ i. at a (p + i) *ℤ at x (k + i * n))))
@@ -23,40 +20,31 @@ Inv-loop a p x k n m sum₀ j₀ sum′ j = (j ≤ m) × (sum′ ≡ ofZ w64 (su
 abbrev μ-loop : tie.MeasureT-loop
 μ-loop a p x k n m sum₀ j₀ sum′ j = m - j
 
--- src/sums.rt:35:5
 loop-holds : tie.Need-loop-holds Inv-loop μ-loop
 unfolding sum
 loop-holds c = (omega arith, refl)
 
--- src/sums.rt:36:34
 add-with-number : tie.Need-add-with-number Inv-loop μ-loop
 add-with-number c = omega (arith, c .before .before .pre .room)
 
--- src/sums.rt:36:32
 mul-with-number : tie.Need-mul-with-number Inv-loop μ-loop
 mul-with-number c = omega (arith, c .before .before .pre .room)
 
--- src/sums.rt:36:32
 shared-slice-copy-out-with-number : tie.Need-shared-slice-copy-out-with-number Inv-loop μ-loop
 shared-slice-copy-out-with-number c = omega (arith, c .before .before .pre .room)
 
--- src/sums.rt:36:48
 mul-with-number-2 : tie.Need-mul-with-number-2 Inv-loop μ-loop
 mul-with-number-2 c = omega (arith, c .before .before .before .pre .places (c .before .before .loop .j) (c .before .loop-test .taken))
 
--- src/sums.rt:36:44
 add-with-number-2 : tie.Need-add-with-number-2 Inv-loop μ-loop
 add-with-number-2 c = omega (arith, c .before .before .before .pre .places (c .before .before .loop .j) (c .before .loop-test .taken))
 
--- src/sums.rt:36:42
 mul-with-number-3 : tie.Need-mul-with-number-3 Inv-loop μ-loop
 mul-with-number-3 c = omega (arith, c .before .before .before .pre .places (c .before .before .loop .j) (c .before .loop-test .taken))
 
--- src/sums.rt:36:42
 element-copy-out-with-number : tie.Need-element-copy-out-with-number Inv-loop μ-loop
 element-copy-out-with-number c = let h = c .before .before .before .pre .places (c .before .before .loop .j) (c .before .loop-test .taken) in search needs
 
--- src/sums.rt:36:9
 with-number-requires : tie.Need-with-number-requires Inv-loop μ-loop
 with-number-requires c κs =
     let s = c .before .before .before .before in
@@ -67,15 +55,12 @@ with-number-requires c κs =
     rw (l .inv .1, reads w64 t tt, reads w32 a tt, reads w32 x tt)
     (fits a tt, fits x tt, fits (within-* a x) tt, fits (within-+ t (within-* a x)) tt)
 
--- src/sums.rt:35:9
 add-j : tie.Need-add-j Inv-loop μ-loop
 add-j c = omega arith
 
--- src/sums.rt:35:5
 loop-less : tie.Need-loop-less Inv-loop μ-loop
 loop-less c = omega arith
 
--- src/sums.rt:35:5
 loop-again : tie.Need-loop-again Inv-loop μ-loop
 unfolding sum
 loop-again c =
@@ -86,7 +71,6 @@ loop-again c =
     let t = apart-small (s .pre) (l .j) (l .inv .0) in
     (omega arith, rw (add-one, c .with-number .ensures, l .inv .1, reads w64 t tt, reads w32 a tt, reads w32 x tt))
 
--- src/sums.rt:30:1
 returns : tie.Need-returns Inv-loop μ-loop
 returns c =
     let s = c .before .before in

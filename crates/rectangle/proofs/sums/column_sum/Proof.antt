@@ -12,32 +12,22 @@ use Rattle.rectangle.specs.Sums.{entriesSum, inColumn, left-apart, right
 use borrow.Author.Needs.{needs}
 use Rattle.rectangle.proofs.sums.column_sum.Statement.{statement}
 use Rattle.rectangle.proofs.sums.column_sum.Tie as tie
-use Rattle.rectangle.proofs.sums.column_sum.Reads as own-reads
-use Rattle.rectangle.proofs.sums.column_sum.Lts as lts
-use Rattle.rectangle.proofs.sums.apart_sum.Reads as apart-sum-reads
-use Rattle.rectangle.proofs.sums.with_number.Reads as with-number-reads
 
--- src/sums.rt:61:15
 apart-sum-requires : tie.Need-apart-sum-requires
 apart-sum-requires c κs = left-apart (c .pre .0) (c .pre .1) (c .pre .2) (c .pre .3)
 
--- src/sums.rt:61:62
 add-apart-sum : tie.Need-add-apart-sum
 add-apart-sum c = search needs
 
--- src/sums.rt:61:77
 add-apart-sum-2 : tie.Need-add-apart-sum-2
 add-apart-sum-2 c = search needs
 
--- src/sums.rt:61:76
 mul-apart-sum : tie.Need-mul-apart-sum
 mul-apart-sum c = let h = own-reach (c .before .pre .0) (c .before .pre .1) (c .before .pre .2) (c .before .pre .3) in omega arith
 
--- src/sums.rt:61:76
 add-apart-sum-3 : tie.Need-add-apart-sum-3
 add-apart-sum-3 c = let h = own-reach (c .before .pre .0) (c .before .pre .1) (c .before .pre .2) (c .before .pre .3) in omega arith
 
--- src/sums.rt:61:49
 apart-sum-requires-2 : tie.Need-apart-sum-requires-2
 apart-sum-requires-2 c κs = let h = c .before .pre in right-apart (h .0) (h .1) (h .2) (h .3)
 
@@ -53,27 +43,21 @@ value c =
 small : (s : tie.Start) → Within (15 * (mostEntry * mostAllowance)) (S s)
 small s = entries-small (s .pre .0) (inColumn (s .args .x .now) (s .args .n) (s .args .k)) (λ j. s .pre .3 .small _)
 
--- src/sums.rt:61:15
 add-sum : tie.Need-add-sum
 add-sum c = rw (value c) (fits (small (c .before .before)) tt)
 
--- src/sums.rt:62:29
 mul-with-number : tie.Need-mul-with-number
 mul-with-number c = let h = own-reach (c .before .before .pre .0) (c .before .before .pre .1) (c .before .before .pre .2) (c .before .before .pre .3) in omega arith
 
--- src/sums.rt:62:29
 add-with-number : tie.Need-add-with-number
 add-with-number c = let h = own-reach (c .before .before .pre .0) (c .before .before .pre .1) (c .before .before .pre .2) (c .before .before .pre .3) in omega arith
 
--- src/sums.rt:62:27
 mul-with-number-2 : tie.Need-mul-with-number-2
 mul-with-number-2 c = let h = own-reach (c .before .before .pre .0) (c .before .before .pre .1) (c .before .before .pre .2) (c .before .before .pre .3) in omega arith
 
--- src/sums.rt:62:27
 element-copy-out-with-number : tie.Need-element-copy-out-with-number
 element-copy-out-with-number c = let h = own-reach (c .before .before .pre .0) (c .before .before .pre .1) (c .before .before .pre .2) (c .before .before .pre .3) in search needs
 
--- src/sums.rt:62:5
 with-number-requires : tie.Need-with-number-requires
 with-number-requires c κs =
     let s = c .before .before .before in
@@ -83,7 +67,6 @@ with-number-requires c κs =
     rw (value (c .before), reads w64 t tt, reads w32 a tt, reads w32 x tt)
     (fits a tt, fits x tt, fits (within-* a x) tt, fits (within-+ t (within-* a x)) tt)
 
--- src/sums.rt:54:1
 returns : tie.Need-returns
 returns c =
     let s = c .before .before .before .before in

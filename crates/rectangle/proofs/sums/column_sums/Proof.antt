@@ -13,9 +13,6 @@ use Rattle.rules.specs.Stages.{fill}
 use Rattle.rectangle.specs.Sums.{across, inColumn, columnSums}
 use Rattle.rectangle.proofs.sums.column_sums.Statement.{statement}
 use Rattle.rectangle.proofs.sums.column_sums.Tie as tie
-use Rattle.rectangle.proofs.sums.column_sums.Reads as own-reads
-use Rattle.rectangle.proofs.sums.column_sums.Lts as lts
-use Rattle.rectangle.proofs.sums.column_sum.Reads as column-sum-reads
 
 abbrev Inv-loop : tie.InvT-loop
 Inv-loop a r m own x n v₀ k₀ v k = (k ≤ n) × (v ≡ fill k (λ i. across a r m (toZ w32 own) (inColumn x n i)) (replicate 16 (pos 0)))
@@ -23,37 +20,29 @@ Inv-loop a r m own x n v₀ k₀ v k = (k ≤ n) × (v ≡ fill k (λ i. across 
 abbrev μ-loop : tie.MeasureT-loop
 μ-loop a r m own x n v₀ k₀ v k = n - k
 
--- src/sums.rt:71:5
 loop-holds : tie.Need-loop-holds Inv-loop μ-loop
 unfolding fill
 loop-holds c = (omega arith, refl)
 
--- src/sums.rt:72:16
 column-sum-requires : tie.Need-column-sum-requires Inv-loop μ-loop
 column-sum-requires c κs = let s = c .before .before in rw (toZ-ofZ (s .fits .own)) (s .pre .0, s .pre .1, c .loop-test .taken, s .pre .2)
 
--- src/sums.rt:72:9
 mul-v : tie.Need-mul-v Inv-loop μ-loop
 mul-v c = omega arith
 
--- src/sums.rt:72:9
 array-set-from-v : tie.Need-array-set-from-v Inv-loop μ-loop
 array-set-from-v c = omega arith
 
--- src/sums.rt:71:9
 add-k : tie.Need-add-k Inv-loop μ-loop
 add-k c = omega arith
 
--- src/sums.rt:71:5
 loop-less : tie.Need-loop-less Inv-loop μ-loop
 loop-less c = omega arith
 
--- src/sums.rt:71:5
 loop-again : tie.Need-loop-again Inv-loop μ-loop
 unfolding fill
 loop-again c = let l = c .before .before .loop in (omega arith, rw (add-one, back w64 _ (c .column-sum .ok), c .column-sum .ensures, l .inv .1))
 
--- src/sums.rt:66:1
 returns : tie.Need-returns Inv-loop μ-loop
 unfolding columnSums
 returns c =

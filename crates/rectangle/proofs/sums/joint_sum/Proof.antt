@@ -7,16 +7,10 @@ use Rattle.rectangle.specs.Sums.{jointSum, across-small}
 use borrow.Author.Needs.{needs}
 use Rattle.rectangle.proofs.sums.joint_sum.Statement.{statement}
 use Rattle.rectangle.proofs.sums.joint_sum.Tie as tie
-use Rattle.rectangle.proofs.sums.joint_sum.Reads as own-reads
-use Rattle.rectangle.proofs.sums.joint_sum.Lts as lts
-use Rattle.rectangle.proofs.sums.whole_sum.Reads as whole-sum-reads
-use Rattle.rectangle.proofs.sums.without_own.Reads as without-own-reads
 
--- src/sums.rt:101:17
 whole-sum-requires : tie.Need-whole-sum-requires
 whole-sum-requires c κs = search needs
 
--- src/sums.rt:101:5
 without-own-requires : tie.Need-without-own-requires
 without-own-requires c κs =
     let s = c .before in
@@ -27,7 +21,6 @@ without-own-requires c κs =
     rw (back w64 _ (c .whole-sum .ok), c .whole-sum .ensures, reads w32 u tt, reads w32 o tt, reads w32 x tt)
     (fits u tt, fits o tt, fits x tt, fits (within-* u o) tt, fits (within-* (within-* u o) x) tt, fits (within-- t (within-* (within-* u o) x)) tt)
 
--- src/sums.rt:97:1
 returns : tie.Need-returns
 unfolding jointSum
 returns c =

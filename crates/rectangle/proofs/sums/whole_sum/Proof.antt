@@ -11,24 +11,16 @@ use Rattle.rectangle.specs.Sums.{entriesSum, mostColumn, left-wide, righ
 use borrow.Author.Needs.{needs}
 use Rattle.rectangle.proofs.sums.whole_sum.Statement.{statement}
 use Rattle.rectangle.proofs.sums.whole_sum.Tie as tie
-use Rattle.rectangle.proofs.sums.whole_sum.Reads as own-reads
-use Rattle.rectangle.proofs.sums.whole_sum.Lts as lts
-use Rattle.rectangle.proofs.sums.wide_sum.Reads as wide-sum-reads
-use Rattle.rectangle.proofs.sums.with_sum.Reads as with-sum-reads
 
--- src/sums.rt:85:15
 wide-sum-requires : tie.Need-wide-sum-requires
 wide-sum-requires c κs = left-wide (c .pre .0) (c .pre .1)
 
--- src/sums.rt:85:57
 add-wide-sum : tie.Need-add-wide-sum
 add-wide-sum c = search needs
 
--- src/sums.rt:85:71
 add-wide-sum-2 : tie.Need-add-wide-sum-2
 add-wide-sum-2 c = search needs
 
--- src/sums.rt:85:45
 wide-sum-requires-2 : tie.Need-wide-sum-requires-2
 wide-sum-requires-2 c κs = right-wide (c .before .pre .0) (c .before .pre .1)
 
@@ -44,19 +36,15 @@ value c =
 small : (s : tie.Start) → Within (15 * (mostEntry * mostColumn)) (S s)
 small s = entries-small (s .pre .0) (at (s .args .v .now)) (s .pre .1 .small)
 
--- src/sums.rt:85:15
 add-sum : tie.Need-add-sum
 add-sum c = rw (value c) (fits (small (c .before .before)) tt)
 
--- src/sums.rt:86:24
 mul-with-sum : tie.Need-mul-with-sum
 mul-with-sum c = search needs
 
--- src/sums.rt:86:24
 element-copy-out-with-sum : tie.Need-element-copy-out-with-sum
 element-copy-out-with-sum c = search needs
 
--- src/sums.rt:86:5
 with-sum-requires : tie.Need-with-sum-requires
 with-sum-requires c κs =
     let s = c .before .before .before in
@@ -66,7 +54,6 @@ with-sum-requires c κs =
     rw (value (c .before), reads w64 t tt, reads w32 a tt, reads w64 x tt)
     (fits a tt, fits (within-* a x) tt, fits (within-+ t (within-* a x)) tt)
 
--- src/sums.rt:78:1
 returns : tie.Need-returns
 returns c =
     let s = c .before .before .before .before in

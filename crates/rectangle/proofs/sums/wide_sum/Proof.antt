@@ -13,9 +13,6 @@ use Rattle.rules.specs.Numbers.{at}
 use Rattle.rectangle.specs.Sums.{wide-small}
 use Rattle.rectangle.proofs.sums.wide_sum.Statement.{statement}
 use Rattle.rectangle.proofs.sums.wide_sum.Tie as tie
-use Rattle.rectangle.proofs.sums.wide_sum.Reads as own-reads
-use Rattle.rectangle.proofs.sums.wide_sum.Lts as lts
-use Rattle.rectangle.proofs.sums.with_sum.Reads as with-sum-reads
 
 abbrev Inv-loop : tie.InvT-loop
 Inv-loop a p v k m sum₀ j₀ sum′ j = (j ≤ m) × (sum′ ≡ ofZ w64 (sum j (λ i. at a (p + i) *ℤ at v (k + i))))
@@ -23,36 +20,28 @@ Inv-loop a p v k m sum₀ j₀ sum′ j = (j ≤ m) × (sum′ ≡ ofZ w64 (sum 
 abbrev μ-loop : tie.MeasureT-loop
 μ-loop a p v k m sum₀ j₀ sum′ j = m - j
 
--- src/sums.rt:47:5
 loop-holds : tie.Need-loop-holds Inv-loop μ-loop
 unfolding sum
 loop-holds c = (omega arith, refl)
 
--- src/sums.rt:48:31
 add-with-sum : tie.Need-add-with-sum Inv-loop μ-loop
 add-with-sum c = omega (arith, c .before .before .pre .room)
 
--- src/sums.rt:48:29
 mul-with-sum : tie.Need-mul-with-sum Inv-loop μ-loop
 mul-with-sum c = omega (arith, c .before .before .pre .room)
 
--- src/sums.rt:48:29
 shared-slice-copy-out-with-sum : tie.Need-shared-slice-copy-out-with-sum Inv-loop μ-loop
 shared-slice-copy-out-with-sum c = omega (arith, c .before .before .pre .room)
 
--- src/sums.rt:48:41
 add-with-sum-2 : tie.Need-add-with-sum-2 Inv-loop μ-loop
 add-with-sum-2 c = omega (arith, c .before .before .before .pre .columns)
 
--- src/sums.rt:48:39
 mul-with-sum-2 : tie.Need-mul-with-sum-2 Inv-loop μ-loop
 mul-with-sum-2 c = omega (arith, c .before .before .before .pre .columns)
 
--- src/sums.rt:48:39
 element-copy-out-with-sum : tie.Need-element-copy-out-with-sum Inv-loop μ-loop
 element-copy-out-with-sum c = let h = c .before .before .before .pre .columns in search needs
 
--- src/sums.rt:48:9
 with-sum-requires : tie.Need-with-sum-requires Inv-loop μ-loop
 with-sum-requires c κs =
     let s = c .before .before .before .before in
@@ -63,15 +52,12 @@ with-sum-requires c κs =
     rw (l .inv .1, reads w64 t tt, reads w32 a tt, reads w64 v tt)
     (fits a tt, fits (within-* a v) tt, fits (within-+ t (within-* a v)) tt)
 
--- src/sums.rt:47:9
 add-j : tie.Need-add-j Inv-loop μ-loop
 add-j c = omega arith
 
--- src/sums.rt:47:5
 loop-less : tie.Need-loop-less Inv-loop μ-loop
 loop-less c = omega arith
 
--- src/sums.rt:47:5
 loop-again : tie.Need-loop-again Inv-loop μ-loop
 unfolding sum
 loop-again c =
@@ -82,7 +68,6 @@ loop-again c =
     let t = wide-small (s .pre) (l .j) (l .inv .0) in
     (omega arith, rw (add-one, c .with-sum .ensures, l .inv .1, reads w64 t tt, reads w32 a tt, reads w64 v tt))
 
--- src/sums.rt:42:1
 returns : tie.Need-returns Inv-loop μ-loop
 returns c =
     let s = c .before .before in

@@ -4,11 +4,8 @@ use Prim.Native.Nat.{_-_, _≤_}
 use native.Mathlib.Omega.{arith}
 use Rattle.rules.specs.Answers.{further, start}
 use Rattle.laws.specs.Accepted.{accepted-order, further-next}
-use Rattle.rectangle.proofs.runs.start_of.Statement.{statement}
-use Rattle.rectangle.proofs.runs.start_of.Tie as tie
-use Rattle.rectangle.proofs.runs.start_of.Reads as own-reads
-use Rattle.rectangle.proofs.runs.start_of.Lts as lts
-use Rattle.sheet.proofs.places.next_factor.Reads as next-factor-reads
+use Rattle.factor.proofs.start_of.Statement.{statement}
+use Rattle.factor.proofs.start_of.Tie as tie
 
 abbrev Inv-loop : tie.InvT-loop
 Inv-loop sheet n f i₀ k₀ i k = (k ≤ f) × (i ≡ start sheet k)
@@ -16,12 +13,10 @@ Inv-loop sheet n f i₀ k₀ i k = (k ≤ f) × (i ≡ start sheet k)
 abbrev μ-loop : tie.MeasureT-loop
 μ-loop sheet n f i₀ k₀ i k = f - k
 
--- src/runs.rt:59:5
 loop-holds : tie.Need-loop-holds Inv-loop μ-loop
 unfolding further
 loop-holds c = (omega arith, refl)
 
--- src/runs.rt:60:9
 next-factor-requires : tie.Need-next-factor-requires Inv-loop μ-loop
 next-factor-requires c κs =
     let s = c .before .before in
@@ -29,22 +24,18 @@ next-factor-requires c κs =
     let r = accepted-order (s .pre .0) in
     rw (s .pre .1, l .inv .1) (r .least, r .most, s .pre .0 .each (l .k) (let h = s .pre .2 in omega arith))
 
--- src/runs.rt:59:9
 add-k : tie.Need-add-k Inv-loop μ-loop
 add-k c = omega arith
 
--- src/runs.rt:59:5
 loop-less : tie.Need-loop-less Inv-loop μ-loop
 loop-less c = omega arith
 
--- src/runs.rt:59:5
 loop-again : tie.Need-loop-again Inv-loop μ-loop
 loop-again c =
     let s = c .before .before .before in
     let l = c .before .before .loop in
     (omega arith, c .next-factor .ensures ∙ rw (s .pre .1, l .inv .1) (sym (further-next (s .args .sheet .now) _ 2 (l .k))))
 
--- src/runs.rt:54:1
 returns : tie.Need-returns Inv-loop μ-loop
 returns c = let l = c .before .loop in let e : l .k ≡ c .before .before .args .f = omega arith in l .inv .1 ∙ rw e
 
