@@ -17,6 +17,7 @@ use Rattle.rules.specs.Calls.{Reply, reply, ranAnswer, ranMemory}
 use Rattle.rules.specs.Laws.Lists.{length-fill, fill-at, fill-past, inside-at, same-list}
 use Rattle.rules.specs.Laws.Pad.{padded}
 use Rattle.factor.specs.Reach.{Numbers}
+use Rattle.factor.specs.Answers.{ranReply}
 
 -- ---- the end of a run
 -- whether a run was accepted, and the stage that is refused
@@ -28,11 +29,7 @@ unfoldable pub ranStage : Ran → ℕ
 ranStage (done v) = 0
 ranStage (beyond s) = s
 
--- the reply to a run of sheets and lengths that are fine: 11 or 13, or the numbers in the output
-abbrev pub ranReply : ℕ → Ran → List ℤ → Reply ℤ
-ranReply number ran y = reply (ranAnswer number ran) (ranMemory ran y) y
-
--- the same as the code makes it, of a block as long as the output or longer
+-- the reply, as the code makes it of a block as long as the output or longer
 unfoldable pub finished : Bool → ℕ → List ℤ → ℕ → List ℤ → Reply ℤ
 finished ok stage block number y =
     cond ok (record { answer = accepted; memory = fill (length y) (at block) y }) (record { answer = refused number 0 stage; memory = y })

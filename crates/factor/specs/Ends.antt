@@ -15,7 +15,8 @@ use Rattle.rules.specs.Laws.Good.{AllGood}
 use Rattle.rules.specs.Laws.Pad.{forward-padded, inverse-padded, allowance-padded}
 use Rattle.rules.specs.Laws.Runs.{loop-start, loop-refused}
 use Rattle.laws.specs.Plans.{forward-length, inverse-length, allowance-length}
-use Rattle.factor.specs.Blocks.{ranOk, ranStage, ranReply, finished, finished-is, behindOf, framed}
+use Rattle.factor.specs.Answers.{ranReply}
+use Rattle.factor.specs.Blocks.{ranOk, ranStage, finished, finished-is, behindOf, framed}
 
 -- the reply to a run over a block b in its room
 abbrev pub ended : Ran → List ℤ → ℕ → List ℤ → Reply ℤ

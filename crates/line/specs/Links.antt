@@ -1,5 +1,5 @@
 -- ONE FACTOR OF A LINE, as the code goes through it, is the document's stage: applied, undone, and for allowances.
-use mathlib.Core.Bool.{Bool, true, cond}
+use mathlib.Core.Bool.{Bool, cond}
 use mathlib.Core.List.{List}
 use mathlib.Core.Logic.{_≢_}
 use mathlib.Core.Path.{_≡_, refl, sym, ap, ap₂, _∙_, subst}
@@ -25,8 +25,7 @@ use Rattle.factor.specs.Rows.{row-sum}
 use Rattle.factor.specs.Wholes.{row-whole}
 use Rattle.factor.specs.Turns.{places-permute, later-blind}
 use Rattle.factor.specs.Walks.{walk-undoes}
-use Rattle.factor.specs.Reach.{Numbers, numbers-inside}
-use Rattle.line.specs.Steps.{stepped, nudge, outAt, backAt, allowAt, walkLine}
+use Rattle.line.specs.Steps.{nudge, outAt, backAt, allowAt, walkLine}
 
 module _ (s : List ℤ) (n i : ℕ) where
   abbrev F : Factor
@@ -113,7 +112,3 @@ module _ (s : List ℤ) (n i : ℕ) where
     pub unpermute-is : (y : List ℤ) → putBack n (λ e. count s (spotAt s n i .signs + e)) y ≡ undo nearest n (lineStage n (factorAt s n i)) y
     unfolding undo
     unpermute-is y = put-same n _ _ y place-there ∙ ap (λ (t : Stage). undo nearest n t y) (sym (moving q))
-
--- a step that only moves numbers is accepted
-pub moved : {B : ℕ} (n : ℕ) {y new : List ℤ} (x : List ℤ) → y ≡ new → Numbers B new → (record { ok = true; block = y } ≡ stepped B n new x) × Numbers B y
-moved {B} n {y} {new} x e h = rw (e, numbers-inside n h) (refl, h)

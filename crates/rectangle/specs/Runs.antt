@@ -1,5 +1,4 @@
 -- ALL PAIRS OF FACTORS: the stages one by one, forward and back, as the loops of the code meet them.
-use mathlib.Core.Bool.{Bool, true, false, cond}
 use mathlib.Core.List.{List, [], _∷_, _++_, reverse, reverse-append}
 use mathlib.Core.Path.{_≡_, refl, sym, ap, _∙_}
 use Prim.Native.Nat.{ℕ, suc, _+_, _-_, _*_, _≤_, _<_}
@@ -9,7 +8,7 @@ use lib.IntN.{ℤ}
 use Rattle.rules.specs.Numbers.{count}
 use Rattle.rules.specs.Sheets.{kindOf}
 use Rattle.rules.specs.Factors.{factorAt, factorsFrom, factors}
-use Rattle.rules.specs.Stages.{Stage, Ran, inside}
+use Rattle.rules.specs.Stages.{Stage, Ran}
 use Rattle.rules.specs.Shapes.{jointStage, jointStages}
 use Rattle.rules.specs.Answers.{further, start, matching, pairChecked}
 use Rattle.rules.specs.Calls.{ranMemory}
@@ -20,22 +19,12 @@ use Rattle.laws.specs.Accepted.{Accepted, accepted-order, further-next, pair-re
 use Rattle.laws.specs.Sound.{factors-split, factors-length, counts-agree, kinds-agree, sheets-match}
 use Rattle.factor.specs.Blocks.{ranOk, ranStage}
 use Rattle.factor.specs.Loops.{Listed}
-use Rattle.rectangle.specs.declared.steps.Stepped.{Stepped}
 use Rattle.rectangle.specs.declared.runs.Outcome.{Outcome}
-use Rattle.rectangle.specs.Steps.{stepped}
 use Rattle.rectangle.specs.Links.{Paired}
 
 -- what a run gives, as the code holds it; a refused run holds the block that it was given
 abbrev pub outcome : Ran → List ℤ → Outcome
 outcome ran x = record { ok = ranOk ran; stage = ranStage ran; block = ranMemory ran x }
-
--- ---- what a step told
-pub step-no : (B n : ℕ) (new old : List ℤ) {r : Stepped} → r ≡ stepped B n new old → r .ok ≡ false → inside B n new ≡ false
-step-no B n new old e h = sym (ap (λ (r : Stepped). r .ok) e) ∙ h
-
-pub step-yes : (B n : ℕ) (new old : List ℤ) {r : Stepped} → r ≡ stepped B n new old → r .ok ≡ true → r .block ≡ new
-step-yes B n new old e h =
-    ap (λ (r : Stepped). r .block) e ∙ ap (λ (b : Bool). cond b new old) (sym (ap (λ (r : Stepped). r .ok) e) ∙ h)
 
 -- ---- two checked sheets that match
 pub record Matched (c r : List ℤ) : Type 0 where

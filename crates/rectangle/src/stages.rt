@@ -1,12 +1,11 @@
 // One stage of a rectangle: the factors at place i of a checked column sheet and at place j of a checked row sheet.
-ghost use mathlib.Core.Path.{_≡_};
 ghost use Prim.Native.Nat.{_*_};
 ghost use Rattle.rules.specs.Numbers.{bound, mostAllowance};
 ghost use Rattle.rules.specs.Factors.{factorAt};
 ghost use Rattle.rules.specs.Stages.{nearest, forward, undo, allow};
 ghost use Rattle.rules.specs.Shapes.{jointStage};
 ghost use Rattle.factor.specs.Reach.{Numbers};
-ghost use Rattle.rectangle.specs.Steps.{stepped};
+ghost use Rattle.factor.specs.Steps.{Step};
 ghost use Rattle.rectangle.specs.Links.{Paired};
 use crate::moves::permute;
 use crate::moves::unpermute;
@@ -28,7 +27,7 @@ pub fn apply_pair(
     x: [i32; 256],
 ) -> Stepped
     requires { ⌜ Paired (now col) (now row) n1 n2 i j × Numbers bound x ⌝ }
-    ensures { λ s. ⌜ (s ≡ stepped bound (n1 * n2) (forward nearest (n1 * n2) (jointStage n1 n2 (factorAt (now (col .entry)) n1 i) (factorAt (now (row .entry)) n2 j)) x) x) × Numbers bound (s .block) ⌝ }
+    ensures { λ s. ⌜ Step bound (n1 * n2) (forward nearest (n1 * n2) (jointStage n1 n2 (factorAt (now (col .entry)) n1 i) (factorAt (now (row .entry)) n2 j)) x) x (s .ok) (s .block) ⌝ }
 {
     let fa = spot_at(col, n1, i);
     let fb = spot_at(row, n2, j);
@@ -50,7 +49,7 @@ pub fn undo_pair(
     y: [i32; 256],
 ) -> Stepped
     requires { ⌜ Paired (now col) (now row) n1 n2 i j × Numbers bound y ⌝ }
-    ensures { λ s. ⌜ (s ≡ stepped bound (n1 * n2) (undo nearest (n1 * n2) (jointStage n1 n2 (factorAt (now (col .entry)) n1 i) (factorAt (now (row .entry)) n2 j)) y) y) × Numbers bound (s .block) ⌝ }
+    ensures { λ s. ⌜ Step bound (n1 * n2) (undo nearest (n1 * n2) (jointStage n1 n2 (factorAt (now (col .entry)) n1 i) (factorAt (now (row .entry)) n2 j)) y) y (s .ok) (s .block) ⌝ }
 {
     let fa = spot_at(col, n1, i);
     let fb = spot_at(row, n2, j);
@@ -72,7 +71,7 @@ pub fn allow_pair(
     b: [i32; 256],
 ) -> Stepped
     requires { ⌜ Paired (now col) (now row) n1 n2 i j × Numbers mostAllowance b ⌝ }
-    ensures { λ s. ⌜ (s ≡ stepped mostAllowance (n1 * n2) (allow nearest (n1 * n2) (jointStage n1 n2 (factorAt (now (col .entry)) n1 i) (factorAt (now (row .entry)) n2 j)) b) b) × Numbers mostAllowance (s .block) ⌝ }
+    ensures { λ s. ⌜ Step mostAllowance (n1 * n2) (allow nearest (n1 * n2) (jointStage n1 n2 (factorAt (now (col .entry)) n1 i) (factorAt (now (row .entry)) n2 j)) b) b (s .ok) (s .block) ⌝ }
 {
     let fa = spot_at(col, n1, i);
     let fb = spot_at(row, n2, j);

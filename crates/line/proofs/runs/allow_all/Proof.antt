@@ -8,17 +8,16 @@ use native.Mathlib.Omega.{arith}
 use lib.IntN.{ℤ}
 use Rattle.rules.specs.Numbers.{mostAllowance, mostOrder, count}
 use Rattle.rules.specs.Factors.{factors}
-use Rattle.rules.specs.Stages.{Ran, nearest, allow, inside, later, run}
+use Rattle.rules.specs.Stages.{Ran, nearest, allow, inside, run}
 use Rattle.rules.specs.Shapes.{lineStages}
 use Rattle.rules.specs.Answers.{further, start}
 use Rattle.rules.specs.Calls.{ranMemory}
 use Rattle.rules.specs.Laws.Runs.{loop-start}
 use Rattle.laws.specs.Accepted.{Accepted, FactorRead, accepted-order, order-counts, count-counts, further-next}
 use Rattle.factor.specs.Blocks.{ranOk, ranStage}
-use Rattle.factor.specs.Reach.{Numbers, numbers-inside}
-use Rattle.factor.specs.Loops.{turn-on, turn-stop, turns-done}
-use Rattle.line.specs.Steps.{stepped}
-use Rattle.line.specs.Runs.{step-no, step-yes, at-stage, ahead, ahead-listed}
+use Rattle.factor.specs.Steps.{Step}
+use Rattle.factor.specs.Loops.{Stands, turn-on, turn-stop, turns-done}
+use Rattle.line.specs.Runs.{at-stage, ahead, ahead-listed}
 use Rattle.line.proofs.runs.allow_all.Statement.{statement}
 use Rattle.line.proofs.runs.allow_all.Tie as tie
 
@@ -32,8 +31,7 @@ Inv-loop sheet b n many v₀ i₀ t₀ v i t =
     × (n ≡ count sheet 0)
     × (many ≡ count sheet 1)
     × (i ≡ start sheet t)
-    × Numbers mostAllowance v
-    × (whole sheet b ≡ later t (run (inside mostAllowance (count sheet 0)) (allow nearest (count sheet 0)) (ahead sheet (count sheet 0) (count sheet 1) t) v))
+    × Stands mostAllowance (count sheet 0) (allow nearest (count sheet 0)) (ahead sheet (count sheet 0) (count sheet 1)) (whole sheet b) t v
 
 abbrev μ-loop : tie.MeasureT-loop
 μ-loop sheet b n many v₀ i₀ t₀ v i t = many - t
@@ -59,10 +57,10 @@ count-at-requires-2 c κs = count-counts (c .before .pre .0)
 
 loop-holds : tie.Need-loop-holds Inv-loop μ-loop
 unfolding further factors
-loop-holds c = (omega arith, c .before .count-at .ensures, c .count-at2 .ensures, refl, c .before .before .pre .1, rw sub-zero (loop-start _ _ _ _))
+loop-holds c = (omega arith, c .before .count-at .ensures, c .count-at2 .ensures, refl, record { small = c .before .before .pre .1; left = rw sub-zero (loop-start _ _ _ _) })
 
 allow-factor-requires : tie.Need-allow-factor-requires Inv-loop μ-loop
-allow-factor-requires c κs = let r = ranged (c .before) in (r .0, r .1, here c, c .before .loop .inv .4)
+allow-factor-requires c κs = let r = ranged (c .before) in (r .0, r .1, here c, c .before .loop .inv .4 .small)
 
 add-t10 : tie.Need-add-t10 Inv-loop μ-loop
 add-t10 c = let l = c .before .before .before .before .loop in omega arith
@@ -72,8 +70,8 @@ told :
     (c : tie.After-allow-factor Inv-loop μ-loop) →
     let s = c .before .before .before .before .before .args .sheet .now in
     let l = c .before .before .loop in
-    c .allow-factor .result ≡ stepped mostAllowance (count s 0) (allow nearest (count s 0) (at-stage s (count s 0) (l .t)) (l .v)) (l .v)
-told c = let l = c .before .before .loop in c .allow-factor .ensures .0 ∙ rw (l .inv .1, l .inv .3)
+    Step mostAllowance (count s 0) (allow nearest (count s 0) (at-stage s (count s 0) (l .t)) (l .v)) (l .v) (c .allow-factor .result .ok) (c .allow-factor .result .block)
+told c = let l = c .before .before .loop in rw (l .inv .1, l .inv .3) at (c .allow-factor .ensures)
 
 returns : tie.Need-returns Inv-loop μ-loop
 unfolding ranOk ranStage ranMemory
@@ -81,8 +79,7 @@ returns c =
     let i = c .before .before .before in
     let l = i .before .loop in
     let s = i .before .before .before .before in
-    rw (turn-stop _ _ (ahead-listed (s .args .sheet .now) _ _) (l .t) (l .v) (rw (l .inv .2) at (i .loop-test .taken)) (numbers-inside _ (l .inv .4))
-    (step-no _ _ _ _ (told (c .before .before)) (not-true _ (c .if1 .taken))) (l .inv .5))
+    rw (turn-stop (ahead-listed (s .args .sheet .now) _ _) (l .t) (rw (l .inv .2) at (i .loop-test .taken)) (l .inv .4) (told (c .before .before)) (not-true _ (c .if1 .taken)))
 
 next-factor-requires : tie.Need-next-factor-requires Inv-loop μ-loop
 next-factor-requires c κs = let i = c .before .before .before .before in let r = ranged (i .before) in (r .0, r .1, here i)
@@ -103,9 +100,7 @@ loop-again c =
       l .inv .1,
       l .inv .2,
       c .next-factor .ensures ∙ rw (l .inv .1, l .inv .3) (sym (further-next (s .args .sheet .now) _ 2 (l .t))),
-      a .allow-factor .ensures .1,
-      rw (step-yes _ _ _ _ (told a) (not-false _ (c .before .before .if1 .left)))
-          (turn-on _ _ (ahead-listed (s .args .sheet .now) _ _) (l .t) (l .v) (rw (l .inv .2) at (i .loop-test .taken)) (numbers-inside _ (l .inv .4)) (l .inv .5)),
+      turn-on (ahead-listed (s .args .sheet .now) _ _) (l .t) (rw (l .inv .2) at (i .loop-test .taken)) (l .inv .4) (told a) (not-false _ (c .before .before .if1 .left)),
     )
 
 returns-2 : tie.Need-returns-2 Inv-loop μ-loop
@@ -114,7 +109,7 @@ returns-2 c =
     let l = c .before .loop in
     let s = c .before .before .before .before in
     let e : l .t ≡ count (s .args .sheet .now) 1 = omega (arith, l .inv .2) in
-    rw (turns-done _ _ (ahead-listed (s .args .sheet .now) _ _) (l .v) (numbers-inside _ (l .inv .4)) (rw e at (l .inv .5)))
+    rw (turns-done (ahead-listed (s .args .sheet .now) _ _) (rw e at (l .inv .4)))
 
 pub allow-all-spec : {M : Type 1} → statement M
 allow-all-spec =

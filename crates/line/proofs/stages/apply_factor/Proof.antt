@@ -2,8 +2,9 @@
 use mathlib.Core.Path.{_∙_}
 use Rattle.factor.specs.Spots.{spotBy, spotAt}
 use Rattle.factor.specs.Reach.{numbers-fill}
+use Rattle.factor.specs.Steps.{step-moves}
 use Rattle.factor.specs.Lies.{lies, moves, kind-yes, kind-no}
-use Rattle.line.specs.Links.{moved, permute-is, weigh-is}
+use Rattle.line.specs.Links.{permute-is, weigh-is}
 use borrow.Author.Needs.{needs}
 use Rattle.line.proofs.stages.apply_factor.Statement.{statement}
 use Rattle.line.proofs.stages.apply_factor.Tie as tie
@@ -26,7 +27,7 @@ returns c =
     let a = c .before .before .before in
     let s = a .before in
     let q = kind-yes (s .pre .2) (a .spot-at .ensures) (c .before .before .is-move .ensures) (c .before .if1 .taken) in
-    rw (← (permute-is _ _ _ q (s .args .x))) (moved (s .args .n) (s .args .x) (c .permute .ensures ∙ rw (a .spot-at .ensures)) (numbers-fill (s .args .n) _ (s .pre .3) (λ e. s .pre .3 .small _)))
+    step-moves (c .permute .ensures ∙ rw (a .spot-at .ensures)) (permute-is _ _ _ q (s .args .x)) (numbers-fill (s .args .n) _ (s .pre .3) (λ e. s .pre .3 .small _))
 
 weigh-requires : tie.Need-weigh-requires
 weigh-requires c κs =
@@ -40,7 +41,7 @@ returns-2 c =
     let a = c .before .before .before in
     let s = a .before in
     let q = kind-no (s .pre .2) (a .spot-at .ensures) (c .before .before .is-move .ensures) (c .before .if1 .left) in
-    (c .weigh .ensures .0 ∙ rw (a .spot-at .ensures, weigh-is _ _ _ (s .pre .2) q (s .args .x)), c .weigh .ensures .1)
+    rw (a .spot-at .ensures, weigh-is _ _ _ (s .pre .2) q (s .args .x)) at (c .weigh .ensures)
 
 pub apply-factor-spec : {M : Type 1} → statement M
 apply-factor-spec =

@@ -15,7 +15,8 @@ use Rattle.whole.specs.Machine.{fits, reads, back}
 use Rattle.rules.specs.Numbers.{mostAllowance}
 use Rattle.rules.specs.Stages.{fill}
 use Rattle.rules.specs.Laws.Lists.{fill-at}
-use Rattle.factor.specs.Reach.{Numbers, numbers-inside, numbers-set, beyond-there, within-test}
+use Rattle.factor.specs.Reach.{Numbers, numbers-set, beyond-there, within-test}
+use Rattle.factor.specs.Steps.{step-stops, step-goes}
 use Rattle.line.specs.Steps.{allowAt}
 use Rattle.line.proofs.steps.allow_weights.Statement.{statement}
 use Rattle.line.proofs.steps.allow_weights.Tie as tie
@@ -53,12 +54,12 @@ returns c =
     let i = c .before .before .before .before in
     let s = i .before .before in
     let m = i .before .loop .m in
-    let h = i .loop-test .taken in (
-      rw (beyond-there mostAllowance (s .args .f .order) (fill (s .args .f .order) (F s) (s .args .t3)) m (F s m) h
-          (fill-at _ (F s) (s .args .t3) m h (let o = s .pre .0 .order in omega (arith, len s)))
-          (ap (λ (z : ℤ). leb (natAbs z) mostAllowance) (sym (value (c .before .before))) ∙ sym (c .before .is-within .ensures) ∙ not-true _ (c .if1 .taken))),
-      s .pre .1,
-    )
+    let h = i .loop-test .taken in
+    step-stops
+    (beyond-there mostAllowance (s .args .f .order) (fill (s .args .f .order) (F s) (s .args .t3)) m (F s m) h
+    (fill-at _ (F s) (s .args .t3) m h (let o = s .pre .0 .order in omega (arith, len s)))
+    (ap (λ (z : ℤ). leb (natAbs z) mostAllowance) (sym (value (c .before .before))) ∙ sym (c .before .is-within .ensures) ∙ not-true _ (c .if1 .taken)))
+    (s .pre .1)
 
 held :
     (c : tie.Else1 Inv-loop μ-loop) →
@@ -95,7 +96,7 @@ returns-2 c =
     let l = c .before .loop in
     let e : l .m ≡ s .args .f .order = omega arith in
     let y : l .c ≡ fill (s .args .f .order) (F s) (s .args .t3) = l .inv .1 ∙ ap (λ (k : ℕ). fill k (F s) (s .args .t3)) e in
-    (rw (← y, numbers-inside (s .args .f .order) (l .inv .2)), l .inv .2)
+    step-goes y (l .inv .2)
 
 pub allow-weights-spec : {M : Type 1} → statement M
 allow-weights-spec =

@@ -7,7 +7,7 @@ use mir.Syntax.{w32}
 use Rattle.whole.specs.Machine.{back}
 use Rattle.rules.specs.Numbers.{at}
 use Rattle.rules.specs.Stages.{fill}
-use Rattle.rectangle.specs.Steps.{sourceOf, source-below, few}
+use Rattle.rectangle.specs.Moves.{sourceOf, source-below, few}
 use Rattle.rectangle.proofs.moves.permute.Statement.{statement}
 use Rattle.rectangle.proofs.moves.permute.Tie as tie
 

@@ -1,7 +1,7 @@
 -- The element's row and column are inside the orders, so the places stand inside the sheets, and the source inside the block.
 use native.Mathlib.Omega.{arith}
 use Rattle.rules.specs.Laws.Rect.{wide, row-below, col-below}
-use Rattle.rectangle.specs.Steps.{sourceOf, source-below}
+use Rattle.rectangle.specs.Moves.{sourceOf, source-below}
 use Rattle.rectangle.proofs.moves.source_of.Statement.{statement}
 use Rattle.rectangle.proofs.moves.source_of.Tie as tie
 

@@ -6,7 +6,7 @@ use native.Mathlib.Omega.{arith}
 use mir.Syntax.{w32}
 use Rattle.whole.specs.Machine.{back}
 use Rattle.rules.specs.Stages.{putBack}
-use Rattle.rectangle.specs.Steps.{sourceOf, source-below, few}
+use Rattle.rectangle.specs.Moves.{sourceOf, source-below, few}
 use Rattle.rectangle.proofs.moves.unpermute.Statement.{statement}
 use Rattle.rectangle.proofs.moves.unpermute.Tie as tie
 

@@ -4,23 +4,22 @@ use mathlib.Core.Path.{_≡_, refl, sym, _∙_}
 use Prim.Native.Nat.{_-_, _≤_}
 use native.Mathlib.Omega.{arith}
 use Rattle.rules.specs.Numbers.{bound, count}
-use Rattle.rules.specs.Stages.{nearest, forward, inside, later, run, runForward}
+use Rattle.rules.specs.Stages.{nearest, forward, runForward}
 use Rattle.rules.specs.Answers.{further, start}
 use Rattle.rules.specs.Calls.{ranMemory}
 use Rattle.rules.specs.Laws.Runs.{loop-start}
 use Rattle.laws.specs.Accepted.{order-counts, count-counts, further-next}
 use Rattle.factor.specs.Blocks.{ranOk, ranStage}
-use Rattle.factor.specs.Reach.{Numbers, numbers-inside}
-use Rattle.factor.specs.Loops.{turn-on, turn-stop, turns-done}
-use Rattle.rectangle.specs.Steps.{stepped}
+use Rattle.factor.specs.Steps.{Step}
+use Rattle.factor.specs.Loops.{Stands, turn-on, turn-stop, turns-done}
 use Rattle.rectangle.specs.Links.{Paired}
-use Rattle.rectangle.specs.Runs.{step-no, step-yes, paired, sizeOf, stagesOf, at-stage, ahead, ahead-listed, ahead-all}
+use Rattle.rectangle.specs.Runs.{paired, sizeOf, stagesOf, at-stage, ahead, ahead-listed, ahead-all}
 use Rattle.rectangle.proofs.runs.apply_all.Statement.{statement}
 use Rattle.rectangle.proofs.runs.apply_all.Tie as tie
 
 abbrev Inv-loop : tie.InvT-loop
 Inv-loop col row x n1 n2 many v₀ i₀ j₀ t₀ v i j t =
-    (t ≤ many) × (n1 ≡ count col 0) × (n2 ≡ count row 0) × (many ≡ count col 1) × (i ≡ start col t) × (j ≡ start row t) × Numbers bound v × (runForward nearest (sizeOf col row) (stagesOf col row) x ≡ later t (run (inside bound (sizeOf col row)) (forward nearest (sizeOf col row)) (ahead col row t) v))
+    (t ≤ many) × (n1 ≡ count col 0) × (n2 ≡ count row 0) × (many ≡ count col 1) × (i ≡ start col t) × (j ≡ start row t) × Stands bound (sizeOf col row) (forward nearest (sizeOf col row)) (ahead col row) (runForward nearest (sizeOf col row) (stagesOf col row) x) t v
 
 abbrev μ-loop : tie.MeasureT-loop
 μ-loop col row x n1 n2 many v₀ i₀ j₀ t₀ v i j t = many - t
@@ -52,12 +51,11 @@ loop-holds c =
       c .count-at3 .ensures,
       refl,
       refl,
-      s .pre .1,
-      loop-start _ _ _ _ ∙ rw (ahead-all (s .args .col .now) (s .args .row .now) (s .pre .0)),
+      record { small = s .pre .1; left = loop-start _ _ _ _ ∙ rw (ahead-all (s .args .col .now) (s .args .row .now) (s .pre .0)) },
     )
 
 apply-pair-requires : tie.Need-apply-pair-requires Inv-loop μ-loop
-apply-pair-requires c κs = (here c, c .before .loop .inv .6)
+apply-pair-requires c κs = (here c, c .before .loop .inv .6 .small)
 
 add-t13 : tie.Need-add-t13 Inv-loop μ-loop
 add-t13 c = let l = c .before .before .before .before .loop in omega arith
@@ -68,8 +66,8 @@ told :
     let s = c .before .before .before .before .before .before in
     let l = c .before .before .loop in
     let N = sizeOf (s .args .col .now) (s .args .row .now) in
-    c .apply-pair .result ≡ stepped bound N (forward nearest N (at-stage (s .args .col .now) (s .args .row .now) (l .t)) (l .v)) (l .v)
-told c = let l = c .before .before .loop in c .apply-pair .ensures .0 ∙ rw (l .inv .1, l .inv .2, l .inv .4, l .inv .5)
+    Step bound N (forward nearest N (at-stage (s .args .col .now) (s .args .row .now) (l .t)) (l .v)) (l .v) (c .apply-pair .result .ok) (c .apply-pair .result .block)
+told c = let l = c .before .before .loop in rw (l .inv .1, l .inv .2, l .inv .4, l .inv .5) at (c .apply-pair .ensures)
 
 returns : tie.Need-returns Inv-loop μ-loop
 unfolding ranOk ranStage ranMemory
@@ -77,8 +75,7 @@ returns c =
     let i = c .before .before .before in
     let l = i .before .loop in
     let s = i .before .before .before .before .before in
-    rw (turn-stop _ _ (ahead-listed (s .args .col .now) (s .args .row .now)) (l .t) (l .v) (rw (l .inv .3) at (i .loop-test .taken)) (numbers-inside _ (l .inv .6))
-    (step-no _ _ _ _ (told (c .before .before)) (not-true _ (c .if1 .taken))) (l .inv .7))
+    rw (turn-stop (ahead-listed (s .args .col .now) (s .args .row .now)) (l .t) (rw (l .inv .3) at (i .loop-test .taken)) (l .inv .6) (told (c .before .before)) (not-true _ (c .if1 .taken)))
 
 next-factor-requires : tie.Need-next-factor-requires Inv-loop μ-loop
 next-factor-requires c κs = let i = c .before .before .before .before in let p = here i in (p .some1, p .most1, p .column)
@@ -104,9 +101,7 @@ loop-again c =
       l .inv .3,
       c .before .next-factor .ensures ∙ rw (l .inv .1, l .inv .4) (sym (further-next (s .args .col .now) _ 2 (l .t))),
       c .next-factor2 .ensures ∙ rw (l .inv .2, l .inv .5) (sym (further-next (s .args .row .now) _ 2 (l .t))),
-      a .apply-pair .ensures .1,
-      rw (step-yes _ _ _ _ (told a) (not-false _ (c .before .before .before .if1 .left)))
-          (turn-on _ _ (ahead-listed (s .args .col .now) (s .args .row .now)) (l .t) (l .v) (rw (l .inv .3) at (i .loop-test .taken)) (numbers-inside _ (l .inv .6)) (l .inv .7)),
+      turn-on (ahead-listed (s .args .col .now) (s .args .row .now)) (l .t) (rw (l .inv .3) at (i .loop-test .taken)) (l .inv .6) (told a) (not-false _ (c .before .before .before .if1 .left)),
     )
 
 returns-2 : tie.Need-returns-2 Inv-loop μ-loop
@@ -115,7 +110,7 @@ returns-2 c =
     let l = c .before .loop in
     let s = c .before .before .before .before .before in
     let e : l .t ≡ count (s .args .col .now) 1 = omega (arith, l .inv .3) in
-    rw (turns-done _ _ (ahead-listed (s .args .col .now) (s .args .row .now)) (l .v) (numbers-inside _ (l .inv .6)) (rw e at (l .inv .7)))
+    rw (turns-done (ahead-listed (s .args .col .now) (s .args .row .now)) (rw e at (l .inv .6)))
 
 pub apply-all-spec : {M : Type 1} → statement M
 apply-all-spec =

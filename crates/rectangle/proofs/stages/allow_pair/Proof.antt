@@ -6,8 +6,9 @@ use Rattle.rules.specs.Numbers.{count}
 use Rattle.rules.specs.Sheets.{kindOf}
 use Rattle.factor.specs.Spots.{spotBy, spotAt}
 use Rattle.factor.specs.Reach.{numbers-fill}
+use Rattle.factor.specs.Steps.{step-moves}
 use Rattle.factor.specs.Lies.{lies, moves, kind-yes, kind-no}
-use Rattle.rectangle.specs.Links.{moved, permute-allows, allow-is}
+use Rattle.rectangle.specs.Links.{permute-allows, allow-is}
 use borrow.Author.Needs.{needs}
 use Rattle.rectangle.proofs.stages.allow_pair.Statement.{statement}
 use Rattle.rectangle.proofs.stages.allow_pair.Tie as tie
@@ -39,8 +40,7 @@ unfolding spotAt spotBy
 returns c =
     let s = c .before .before .before .before .before in
     let q = yes-kind (c .before) in
-    rw (← (permute-allows _ _ _ _ _ _ (s .pre .0 .match) q (s .args .b)))
-    (moved _ (s .args .b) (c .permute .ensures ∙ rw (c .before .before .before .before .spot-at .ensures, c .before .before .before .spot-at2 .ensures)) (numbers-fill _ _ (s .pre .1) (λ e. s .pre .1 .small _)))
+    step-moves (c .permute .ensures ∙ rw (c .before .before .before .before .spot-at .ensures, c .before .before .before .spot-at2 .ensures)) (permute-allows _ _ _ _ _ _ (s .pre .0 .match) q (s .args .b)) (numbers-fill _ _ (s .pre .1) (λ e. s .pre .1 .small _))
 
 allow-weights-requires : tie.Need-allow-weights-requires
 allow-weights-requires c κs =
@@ -56,7 +56,7 @@ returns-2 c =
     let s = c .before .before .before .before .before in
     let p = s .pre .0 in
     let q = no-kind (c .before) in
-    (c .allow-weights .ensures .0 ∙ rw (c .before .before .before .before .spot-at .ensures, c .before .before .before .spot-at2 .ensures, allow-is _ _ _ _ _ _ (p .column) (p .row) (p .match) q (p .most2) (p .most1) (s .args .b)), c .allow-weights .ensures .1)
+    rw (c .before .before .before .before .spot-at .ensures, c .before .before .before .spot-at2 .ensures, allow-is _ _ _ _ _ _ (p .column) (p .row) (p .match) q (p .most2) (p .most1) (s .args .b)) at (c .allow-weights .ensures)
 
 pub allow-pair-spec : {M : Type 1} → statement M
 allow-pair-spec =

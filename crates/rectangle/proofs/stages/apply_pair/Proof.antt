@@ -6,8 +6,9 @@ use Rattle.rules.specs.Numbers.{count}
 use Rattle.rules.specs.Sheets.{kindOf}
 use Rattle.factor.specs.Spots.{spotBy, spotAt}
 use Rattle.factor.specs.Reach.{numbers-fill}
+use Rattle.factor.specs.Steps.{step-moves}
 use Rattle.factor.specs.Lies.{lies, moves, kind-yes, kind-no}
-use Rattle.rectangle.specs.Links.{moved, permute-is, weigh-is}
+use Rattle.rectangle.specs.Links.{permute-is, weigh-is}
 use borrow.Author.Needs.{needs}
 use Rattle.rectangle.proofs.stages.apply_pair.Statement.{statement}
 use Rattle.rectangle.proofs.stages.apply_pair.Tie as tie
@@ -39,8 +40,7 @@ unfolding spotAt spotBy
 returns c =
     let s = c .before .before .before .before .before in
     let q = yes-kind (c .before) in
-    rw (← (permute-is _ _ _ _ _ _ (s .pre .0 .match) q (s .args .x)))
-    (moved _ (s .args .x) (c .permute .ensures ∙ rw (c .before .before .before .before .spot-at .ensures, c .before .before .before .spot-at2 .ensures)) (numbers-fill _ _ (s .pre .1) (λ e. s .pre .1 .small _)))
+    step-moves (c .permute .ensures ∙ rw (c .before .before .before .before .spot-at .ensures, c .before .before .before .spot-at2 .ensures)) (permute-is _ _ _ _ _ _ (s .pre .0 .match) q (s .args .x)) (numbers-fill _ _ (s .pre .1) (λ e. s .pre .1 .small _))
 
 weigh-requires : tie.Need-weigh-requires
 weigh-requires c κs =
@@ -56,7 +56,7 @@ returns-2 c =
     let s = c .before .before .before .before .before in
     let p = s .pre .0 in
     let q = no-kind (c .before) in
-    (c .weigh .ensures .0 ∙ rw (c .before .before .before .before .spot-at .ensures, c .before .before .before .spot-at2 .ensures, weigh-is _ _ _ _ _ _ (p .column) (p .row) (p .match) q (p .most2) (s .args .x)), c .weigh .ensures .1)
+    rw (c .before .before .before .before .spot-at .ensures, c .before .before .before .spot-at2 .ensures, weigh-is _ _ _ _ _ _ (p .column) (p .row) (p .match) q (p .most2) (s .args .x)) at (c .weigh .ensures)
 
 pub apply-pair-spec : {M : Type 1} → statement M
 apply-pair-spec =

@@ -9,8 +9,9 @@ use Rattle.rules.specs.Numbers.{count}
 use Rattle.rules.specs.Sheets.{kindOf}
 use Rattle.factor.specs.Spots.{spotBy, spotAt}
 use Rattle.factor.specs.Reach.{numbers-put}
+use Rattle.factor.specs.Steps.{step-moves}
 use Rattle.factor.specs.Lies.{lies, moves, kind-yes, kind-no, row-inside}
-use Rattle.rectangle.specs.Links.{moved, unpermute-is, unweigh-is}
+use Rattle.rectangle.specs.Links.{unpermute-is, unweigh-is}
 use borrow.Author.Needs.{needs}
 use Rattle.rectangle.proofs.stages.undo_pair.Statement.{statement}
 use Rattle.rectangle.proofs.stages.undo_pair.Tie as tie
@@ -45,8 +46,7 @@ unfolding spotAt spotBy
 returns c =
     let s = c .before .before .before .before .before in
     let q = yes-kind (c .before) in
-    rw (← (unpermute-is _ _ _ _ _ _ (s .pre .0 .match) q (s .args .y)))
-    (moved _ (s .args .y) (c .unpermute .ensures ∙ rw (c .before .before .before .before .spot-at .ensures, c .before .before .before .spot-at2 .ensures)) (numbers-put _ _ (s .pre .1)))
+    step-moves (c .unpermute .ensures ∙ rw (c .before .before .before .before .spot-at .ensures, c .before .before .before .spot-at2 .ensures)) (unpermute-is _ _ _ _ _ _ (s .pre .0 .match) q (s .args .y)) (numbers-put _ _ (s .pre .1))
 
 unweigh-requires : tie.Need-unweigh-requires
 unfolding spotAt spotBy
@@ -63,7 +63,7 @@ returns-2 c =
     let s = c .before .before .before .before .before in
     let p = s .pre .0 in
     let q = no-kind (c .before) in
-    (c .unweigh .ensures .0 ∙ rw (c .before .before .before .before .spot-at .ensures, c .before .before .before .spot-at2 .ensures, unweigh-is _ _ _ _ _ _ (p .column) (p .row) (p .match) q (p .most2) (row-inside (p .some1) (p .column)) (row-inside (p .some2) (p .row)) (s .args .y) (omega (arith, len s, mul-le-mul (p .most1) (p .most2)))), c .unweigh .ensures .1)
+    rw (c .before .before .before .before .spot-at .ensures, c .before .before .before .spot-at2 .ensures, unweigh-is _ _ _ _ _ _ (p .column) (p .row) (p .match) q (p .most2) (row-inside (p .some1) (p .column)) (row-inside (p .some2) (p .row)) (s .args .y) (omega (arith, len s, mul-le-mul (p .most1) (p .most2)))) at (c .unweigh .ensures)
 
 pub undo-pair-spec : {M : Type 1} → statement M
 undo-pair-spec =

@@ -10,7 +10,8 @@ use lib.IntN.{ℤ}
 use lib.ListN.{length}
 use Rattle.rules.specs.Numbers.{mostAllowance}
 use Rattle.rules.specs.Stages.{fill, inside}
-use Rattle.factor.specs.Reach.{Numbers, numbers-inside}
+use Rattle.factor.specs.Reach.{Numbers}
+use Rattle.factor.specs.Steps.{step-stops, step-goes}
 use Rattle.factor.specs.Walks.{walk}
 use Rattle.rectangle.specs.Sizes.{allowOf}
 use Rattle.rectangle.specs.Went.{plain, inRow, walk-fill, same-permutes, row-stuck, row-on, no-row}
@@ -51,7 +52,7 @@ returns c =
     rw (← (walk-fill (F s) (N s) (s .args .t5)))
     (row-stuck (same-permutes (N s)) mostAllowance (plain (F s)) (s .args .t5) (room s) (s .args .fa .order) n (l .i) (inRow n (l .i)) refl
     (c .before .before .before .before .loop-test .taken) (λ u g. refl) (l .inv .1) (c .before .allow-row .ensures .stuck (not-true _ (c .if1 .taken)))) in
-    rw b (refl, s .pre .2)
+    step-stops b (s .pre .2)
 
 add-i : tie.Need-add-i Inv-loop μ-loop
 add-i c = omega arith
@@ -73,7 +74,7 @@ returns-2 c =
     let l = c .before .loop in
     let e : l .i ≡ s .args .fa .order = omega arith in
     let y : l .y ≡ fill (N s) (F s) (s .args .t5) = l .inv .1 ∙ ap (λ (k : ℕ). walk (plain (F s)) (λ e. e) (k * s .args .fb .order) (s .args .t5)) e ∙ walk-fill (F s) (N s) (s .args .t5) in
-    rw (← y, numbers-inside (N s) (l .inv .2)) (refl, l .inv .2)
+    step-goes y (l .inv .2)
 
 pub allow-weights-spec : {M : Type 1} → statement M
 allow-weights-spec =

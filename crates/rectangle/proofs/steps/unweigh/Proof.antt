@@ -9,7 +9,8 @@ use native.Mathlib.Omega.{arith}
 use lib.IntN.{ℤ}
 use lib.ListN.{length}
 use Rattle.rules.specs.Numbers.{bound}
-use Rattle.factor.specs.Reach.{Numbers, numbers-inside}
+use Rattle.factor.specs.Reach.{Numbers}
+use Rattle.factor.specs.Steps.{step-stops, step-goes}
 use Rattle.factor.specs.Walks.{walk, length-walk}
 use Rattle.rules.specs.Laws.Good.{Permutes}
 use Rattle.factor.specs.Spots.{placeOf}
@@ -75,9 +76,10 @@ returns c =
     let p = c .before .before .before in
     let s = p .before .before .before in
     let l = p .before .before .loop in
-    rw (row-stuck (permutes s) bound (backOf (s .args .col .now) (s .args .fa) (s .args .row .now) (s .args .fb)) (s .args .y) (room s) (s .args .fa .order) (s .args .fb .order) (l .s) (Q p) refl
+    step-stops
+    (row-stuck (permutes s) bound (backOf (s .args .col .now) (s .args .fa) (s .args .row .now) (s .args .fb)) (s .args .y) (room s) (s .args .fa .order) (s .args .fb .order) (l .s) (Q p) refl
     (p .before .loop-test .taken) (turns p) (l .inv .1) (c .before .unweigh-row .ensures .stuck (not-true _ (c .if1 .taken))))
-    (refl, s .pre .4)
+    (s .pre .4)
 
 add-s : tie.Need-add-s Inv-loop μ-loop
 add-s c = omega arith
@@ -99,7 +101,7 @@ returns-2 c =
     let l = c .before .loop in
     let e : l .s ≡ s .args .fa .order = omega arith in
     let x : l .x ≡ W s (N s) = l .inv .1 ∙ ap (λ (k : ℕ). W s (k * s .args .fb .order)) e in
-    rw (← x, numbers-inside (N s) (l .inv .2)) (refl, l .inv .2)
+    step-goes x (l .inv .2)
 
 pub unweigh-spec : {M : Type 1} → statement M
 unweigh-spec =

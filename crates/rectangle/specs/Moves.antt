@@ -1,20 +1,13 @@
--- A STEP of a run as the code holds it.
-use mathlib.Core.Bool.{cond}
+-- A PAIR OF PERMUTATIONS: where an element comes from.
 use mathlib.Core.List.{List}
 use native.Mathlib.Nat.{mul-le-mul}
 use native.Mathlib.Omega.{arith}
 use Prim.Native.Nat.{ℕ, _+_, _*_, _/_, _%_, _≤_, _<_}
 use lib.IntN.{ℤ}
 use Rattle.rules.specs.Numbers.{count}
-use Rattle.rules.specs.Stages.{inside}
 use Rattle.rules.specs.Laws.Rect.{row-below, col-below, place-below}
 use Rattle.factor.specs.declared.Spot.{Spot}
 use Rattle.factor.specs.Lies.{Moves}
-use Rattle.rectangle.specs.declared.steps.Stepped.{Stepped}
-
--- whether every one of the n numbers is in bound, and the new block; else the old one
-abbrev pub stepped : ℕ → ℕ → List ℤ → List ℤ → Stepped
-stepped most n new old = record { ok = inside most n new; block = cond (inside most n new) new old }
 
 -- where element e comes from: "Y(i,j) = X(p(i), q(j))"
 unfoldable pub sourceOf : List ℤ → Spot → List ℤ → Spot → ℕ → ℕ
