@@ -6,6 +6,7 @@ pub mod Walks
 pub mod Turns
 pub mod Magnitudes
 pub mod Wholes
+pub mod Ways
 pub mod Steps
 pub mod Loops
 pub mod Answers

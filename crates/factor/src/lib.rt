@@ -39,6 +39,12 @@ pub struct Row {
     pub right: usize,
 }
 
+// What goes through the stages, first to last: the numbers of a block, or the allowances of its coefficients.
+pub enum Way {
+    Applied,
+    Allowed,
+}
+
 // A factor at i that has no row of its own: its signs follow the kind number.
 fn spot_without_row(kind: Kind, n: usize, i: usize) -> Spot
     requires { ⌜ Fits w64 (i + 1 + n) ⌝ }

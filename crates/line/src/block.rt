@@ -9,9 +9,9 @@ ghost use Rattle.laws.specs.Accepted.{Accepted};
 ghost use Rattle.factor.specs.Answers.{ranReply};
 ghost use Rattle.factor.specs.Blocks.{framed};
 ghost use Rattle.line.specs.Runs.{stagesOf};
-use crate::runs::allow_all;
-use crate::runs::apply_all;
+use crate::runs::take_all;
 use crate::runs::undo_all;
+use factor::Way;
 use factor::block::copy_front;
 use factor::block::finish;
 use factor::bounds::is_inside;
@@ -35,7 +35,7 @@ pub fn forward_block(s: &[i32], x: &[i32], y: &mut [i32]) -> Answer
     if !is_inside(x) {
         return Answer::refused(11, 0, 0);
     }
-    let r = apply_all(s, load(x));
+    let r = take_all(Way::Applied, s, load(x));
     finish(r.ok, r.stage, &r.block, 11, y)
 }
 
@@ -56,6 +56,6 @@ pub fn allowance_block(s: &[i32], y: &mut [i32]) -> Answer
     requires { ⌜ Accepted (now s) × (length (now y) ≡ count (now s) 0) ⌝ }
     ensures { λ a. ⌜ Gives a (now (y .exit)) (ranReply 13 (runAllowance nearest (count (now (s .entry)) 0) (stagesOf (now (s .entry)))) (now (y .entry))) ⌝ }
 {
-    let r = allow_all(s, [0i32; 16]);
+    let r = take_all(Way::Allowed, s, [0i32; 16]);
     finish(r.ok, r.stage, &r.block, 13, y)
 }

@@ -23,6 +23,9 @@ use Rattle.rules.specs.Laws.Rect.{row-below, col-below, row-of, col-of, joint-s
 use Rattle.laws.specs.Accepted.{FactorRead}
 use Rattle.laws.specs.Sound.{factor-sound}
 use Rattle.factor.specs.declared.Spot.{Spot}
+use Rattle.factor.specs.declared.Way.{Way}
+use Rattle.factor.specs.declared.Way.the-variants.{Applied, Allowed}
+use Rattle.factor.specs.Ways.{takenBy}
 use Rattle.factor.specs.Spots.{rowIn, spotBy, spotAt, rowOf, placeOf}
 use Rattle.factor.specs.Wholes.{row-whole}
 use Rattle.factor.specs.Turns.{places-permute, later-blind}
@@ -203,13 +206,10 @@ module _ (c r : List ℤ) (n1 n2 a b : ℕ) where
     unfolding sourceOf jointSource factorAt spotAt spotBy signsAt
     source-there e = rw (← match, q)
 
-    pub permute-is : (x : List ℤ) → fill (n1 * n2) (λ e. at x (sourceOf c (spotAt c n1 a) r (spotAt r n2 b) e)) x ≡ forward nearest (n1 * n2) (jointStage n1 n2 (factorAt c n1 a) (factorAt r n2 b)) x
-    unfolding forward
-    permute-is x = fill-same (n1 * n2) _ _ x (λ e l. rw (source-there e)) ∙ ap (λ (t : Stage). forward nearest (n1 * n2) t x) (sym (moving q))
-
-    pub permute-allows : (x : List ℤ) → fill (n1 * n2) (λ e. at x (sourceOf c (spotAt c n1 a) r (spotAt r n2 b) e)) x ≡ allow nearest (n1 * n2) (jointStage n1 n2 (factorAt c n1 a) (factorAt r n2 b)) x
-    unfolding allow
-    permute-allows x = fill-same (n1 * n2) _ _ x (λ e l. rw (source-there e)) ∙ ap (λ (t : Stage). allow nearest (n1 * n2) t x) (sym (moving q))
+    pub permute-is : (way : Way) (x : List ℤ) → fill (n1 * n2) (λ e. at x (sourceOf c (spotAt c n1 a) r (spotAt r n2 b) e)) x ≡ takenBy way (n1 * n2) (jointStage n1 n2 (factorAt c n1 a) (factorAt r n2 b)) x
+    unfolding takenBy forward allow
+    permute-is Applied x = fill-same (n1 * n2) _ _ x (λ e l. rw (source-there e)) ∙ ap (λ (t : Stage). forward nearest (n1 * n2) t x) (sym (moving q))
+    permute-is Allowed x = fill-same (n1 * n2) _ _ x (λ e l. rw (source-there e)) ∙ ap (λ (t : Stage). allow nearest (n1 * n2) t x) (sym (moving q))
 
     pub unpermute-is : (y : List ℤ) → putBack (n1 * n2) (sourceOf c (spotAt c n1 a) r (spotAt r n2 b)) y ≡ undo nearest (n1 * n2) (jointStage n1 n2 (factorAt c n1 a) (factorAt r n2 b)) y
     unfolding undo

@@ -7,9 +7,9 @@ ghost use Rattle.rules.specs.Calls.{Gives};
 ghost use Rattle.factor.specs.Answers.{ranReply};
 ghost use Rattle.factor.specs.Blocks.{framed};
 ghost use Rattle.rectangle.specs.Runs.{Matched, sizeOf, stagesOf};
-use crate::runs::allow_all;
-use crate::runs::apply_all;
+use crate::runs::take_all;
 use crate::runs::undo_all;
+use factor::Way;
 use factor::block::copy_front;
 use factor::block::finish;
 use factor::bounds::is_inside;
@@ -33,7 +33,7 @@ pub fn forward_block(col: &[i32], row: &[i32], x: &[i32], y: &mut [i32]) -> Answ
     if !is_inside(x) {
         return Answer::refused(11, 0, 0);
     }
-    let r = apply_all(col, row, load(x));
+    let r = take_all(Way::Applied, col, row, load(x));
     finish(r.ok, r.stage, &r.block, 11, y)
 }
 
@@ -54,6 +54,6 @@ pub fn allowance_block(col: &[i32], row: &[i32], y: &mut [i32]) -> Answer
     requires { ⌜ Matched (now col) (now row) × (length (now y) ≡ sizeOf (now col) (now row)) ⌝ }
     ensures { λ a. ⌜ Gives a (now (y .exit)) (ranReply 13 (runAllowance nearest (sizeOf (now (col .entry)) (now (row .entry))) (stagesOf (now (col .entry)) (now (row .entry)))) (now (y .entry))) ⌝ }
 {
-    let r = allow_all(col, row, [0i32; 256]);
+    let r = take_all(Way::Allowed, col, row, [0i32; 256]);
     finish(r.ok, r.stage, &r.block, 13, y)
 }

@@ -5,6 +5,8 @@ use mathlib.Core.Path.{_≡_, sym, _∙_}
 use native.Mathlib.Omega.{arith}
 use lib.ListN.{length}
 use Rattle.rules.specs.Numbers.{bound}
+use Rattle.rules.specs.Stages.{runForward}
+use Rattle.factor.specs.Ways.{limitOf, takenBy}
 use Rattle.factor.specs.Blocks.{framed-numbers}
 use Rattle.factor.specs.Ends.{forward-ends, forward-out}
 use Rattle.rectangle.specs.Runs.{stages-good, size-most}
@@ -26,8 +28,9 @@ returns c =
 load-requires : tie.Need-load-requires
 load-requires c κs = let s = c .before .before in let m = size-most (s .pre .0) in omega (arith, s .pre .1)
 
-apply-all-requires : tie.Need-apply-all-requires
-apply-all-requires c κs =
+take-all-requires : tie.Need-take-all-requires
+unfolding limitOf
+take-all-requires c κs =
     let e = c .before in
     let s = e .before .before in
     (s .pre .0, rw (c .load .ensures) (framed-numbers 256 bound (s .args .x .now) (sym (e .before .is-inside .ensures) ∙ not-false _ (e .if1 .left))))
@@ -37,19 +40,20 @@ finish-requires c κs =
     let a = c .before .before .before .before in
     let s = a .before .before .before .before in
     let m = size-most (s .pre .0) in
-    let l : length (a .apply-all .result .block) ≡ 256 = search needs in
+    let l : length (a .take-all .result .block) ≡ 256 = search needs in
     omega (arith, s .pre .2)
 
 same-length : tie.Need-same-length
 same-length c = search needs
 
 returns-2 : tie.Need-returns-2
+unfolding runForward limitOf takenBy
 returns-2 c =
     let f = c .before in
     let a = f .before .before .before .before .before in
     let s = a .before .before .before .before in
     rw (← (forward-ends 256 (stages-good (s .pre .0)) (s .args .x .now) (s .args .y .now) (s .pre .1) (s .pre .2)))
-    (rw (a .apply-all .ensures, a .before .load .ensures) at (f .finish .ensures))
+    (rw (a .take-all .ensures, a .before .load .ensures) at (f .finish .ensures))
 
 pub forward-block-spec : {M : Type 1} → statement M
 forward-block-spec =
@@ -59,7 +63,7 @@ forward-block-spec =
     refused-requires
     returns
     load-requires
-    apply-all-requires
+    take-all-requires
     finish-requires
     same-length
     returns-2)

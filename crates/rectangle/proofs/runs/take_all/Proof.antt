@@ -3,26 +3,26 @@ use borrow.Author.Tests.{not-true, not-false}
 use mathlib.Core.Path.{_≡_, refl, sym, _∙_}
 use Prim.Native.Nat.{_-_, _≤_}
 use native.Mathlib.Omega.{arith}
-use Rattle.rules.specs.Numbers.{bound, count}
-use Rattle.rules.specs.Stages.{nearest, forward, runForward}
+use Rattle.rules.specs.Numbers.{count}
 use Rattle.rules.specs.Answers.{further, start}
 use Rattle.rules.specs.Calls.{ranMemory}
 use Rattle.rules.specs.Laws.Runs.{loop-start}
 use Rattle.laws.specs.Accepted.{order-counts, count-counts, further-next}
+use Rattle.factor.specs.Ways.{limitOf, takenBy, runBy}
 use Rattle.factor.specs.Blocks.{ranOk, ranStage}
 use Rattle.factor.specs.Steps.{Step}
 use Rattle.factor.specs.Loops.{Stands, turn-on, turn-stop, turns-done}
 use Rattle.rectangle.specs.Links.{Paired}
 use Rattle.rectangle.specs.Runs.{paired, sizeOf, stagesOf, at-stage, ahead, ahead-listed, ahead-all}
-use Rattle.rectangle.proofs.runs.apply_all.Statement.{statement}
-use Rattle.rectangle.proofs.runs.apply_all.Tie as tie
+use Rattle.rectangle.proofs.runs.take_all.Statement.{statement}
+use Rattle.rectangle.proofs.runs.take_all.Tie as tie
 
 abbrev Inv-loop : tie.InvT-loop
-Inv-loop col row x n1 n2 many v₀ i₀ j₀ t₀ v i j t =
-    (t ≤ many) × (n1 ≡ count col 0) × (n2 ≡ count row 0) × (many ≡ count col 1) × (i ≡ start col t) × (j ≡ start row t) × Stands bound (sizeOf col row) (forward nearest (sizeOf col row)) (ahead col row) (runForward nearest (sizeOf col row) (stagesOf col row) x) t v
+Inv-loop way col row x n1 n2 many v₀ i₀ j₀ t₀ v i j t =
+    (t ≤ many) × (n1 ≡ count col 0) × (n2 ≡ count row 0) × (many ≡ count col 1) × (i ≡ start col t) × (j ≡ start row t) × Stands (limitOf way) (sizeOf col row) (takenBy way (sizeOf col row)) (ahead col row) (runBy way (sizeOf col row) (stagesOf col row) x) t v
 
 abbrev μ-loop : tie.MeasureT-loop
-μ-loop col row x n1 n2 many v₀ i₀ j₀ t₀ v i j t = many - t
+μ-loop way col row x n1 n2 many v₀ i₀ j₀ t₀ v i j t = many - t
 
 -- the factors of this turn
 here :
@@ -42,7 +42,7 @@ count-at-requires-3 : tie.Need-count-at-requires-3 Inv-loop μ-loop
 count-at-requires-3 c κs = count-counts (c .before .before .pre .0 .column)
 
 loop-holds : tie.Need-loop-holds Inv-loop μ-loop
-unfolding further runForward
+unfolding further
 loop-holds c =
     let s = c .before .before .before in (
       omega arith,
@@ -54,20 +54,20 @@ loop-holds c =
       record { small = s .pre .1; left = loop-start _ _ _ _ ∙ rw (ahead-all (s .args .col .now) (s .args .row .now) (s .pre .0)) },
     )
 
-apply-pair-requires : tie.Need-apply-pair-requires Inv-loop μ-loop
-apply-pair-requires c κs = (here c, c .before .loop .inv .6 .small)
+take-pair-requires : tie.Need-take-pair-requires Inv-loop μ-loop
+take-pair-requires c κs = (here c, c .before .loop .inv .6 .small)
 
-add-t13 : tie.Need-add-t13 Inv-loop μ-loop
-add-t13 c = let l = c .before .before .before .before .loop in omega arith
+add-t14 : tie.Need-add-t14 Inv-loop μ-loop
+add-t14 c = let l = c .before .before .before .before .loop in omega arith
 
 -- the step, of the orders themselves
 told :
-    (c : tie.After-apply-pair Inv-loop μ-loop) →
+    (c : tie.After-take-pair Inv-loop μ-loop) →
     let s = c .before .before .before .before .before .before in
     let l = c .before .before .loop in
     let N = sizeOf (s .args .col .now) (s .args .row .now) in
-    Step bound N (forward nearest N (at-stage (s .args .col .now) (s .args .row .now) (l .t)) (l .v)) (l .v) (c .apply-pair .result .ok) (c .apply-pair .result .block)
-told c = let l = c .before .before .loop in rw (l .inv .1, l .inv .2, l .inv .4, l .inv .5) at (c .apply-pair .ensures)
+    Step (limitOf (s .args .way)) N (takenBy (s .args .way) N (at-stage (s .args .col .now) (s .args .row .now) (l .t)) (l .v)) (l .v) (c .take-pair .result .ok) (c .take-pair .result .block)
+told c = let l = c .before .before .loop in rw (l .inv .1, l .inv .2, l .inv .4, l .inv .5) at (c .take-pair .ensures)
 
 returns : tie.Need-returns Inv-loop μ-loop
 unfolding ranOk ranStage ranMemory
@@ -112,8 +112,8 @@ returns-2 c =
     let e : l .t ≡ count (s .args .col .now) 1 = omega (arith, l .inv .3) in
     rw (turns-done (ahead-listed (s .args .col .now) (s .args .row .now)) (rw e at (l .inv .6)))
 
-pub apply-all-spec : {M : Type 1} → statement M
-apply-all-spec =
+pub take-all-spec : {M : Type 1} → statement M
+take-all-spec =
     tie.close
     (tie.spec
     Inv-loop
@@ -122,8 +122,8 @@ apply-all-spec =
     count-at-requires-2
     count-at-requires-3
     loop-holds
-    apply-pair-requires
-    add-t13
+    take-pair-requires
+    add-t14
     returns
     next-factor-requires
     next-factor-requires-2

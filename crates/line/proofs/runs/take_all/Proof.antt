@@ -6,35 +6,37 @@ use Prim.Native.Nat.{_-_, _≤_}
 use native.Mathlib.Nat.{sub-zero}
 use native.Mathlib.Omega.{arith}
 use lib.IntN.{ℤ}
-use Rattle.rules.specs.Numbers.{mostAllowance, mostOrder, count}
+use Rattle.rules.specs.Numbers.{mostOrder, count}
 use Rattle.rules.specs.Factors.{factors}
-use Rattle.rules.specs.Stages.{Ran, nearest, allow, inside, run}
+use Rattle.rules.specs.Stages.{Ran}
 use Rattle.rules.specs.Shapes.{lineStages}
 use Rattle.rules.specs.Answers.{further, start}
 use Rattle.rules.specs.Calls.{ranMemory}
 use Rattle.rules.specs.Laws.Runs.{loop-start}
 use Rattle.laws.specs.Accepted.{Accepted, FactorRead, accepted-order, order-counts, count-counts, further-next}
+use Rattle.factor.specs.declared.Way.{Way}
+use Rattle.factor.specs.Ways.{limitOf, takenBy, runBy}
 use Rattle.factor.specs.Blocks.{ranOk, ranStage}
 use Rattle.factor.specs.Steps.{Step}
 use Rattle.factor.specs.Loops.{Stands, turn-on, turn-stop, turns-done}
 use Rattle.line.specs.Runs.{at-stage, ahead, ahead-listed}
-use Rattle.line.proofs.runs.allow_all.Statement.{statement}
-use Rattle.line.proofs.runs.allow_all.Tie as tie
+use Rattle.line.proofs.runs.take_all.Statement.{statement}
+use Rattle.line.proofs.runs.take_all.Tie as tie
 
 -- the run that is asked for
-abbrev whole : List ℤ → List ℤ → Ran
-whole s b = run (inside mostAllowance (count s 0)) (allow nearest (count s 0)) (lineStages (count s 0) (factors s)) b
+abbrev whole : Way → List ℤ → List ℤ → Ran
+whole way s x = runBy way (count s 0) (lineStages (count s 0) (factors s)) x
 
 abbrev Inv-loop : tie.InvT-loop
-Inv-loop sheet b n many v₀ i₀ t₀ v i t =
+Inv-loop way sheet x n many v₀ i₀ t₀ v i t =
     (t ≤ many)
     × (n ≡ count sheet 0)
     × (many ≡ count sheet 1)
     × (i ≡ start sheet t)
-    × Stands mostAllowance (count sheet 0) (allow nearest (count sheet 0)) (ahead sheet (count sheet 0) (count sheet 1)) (whole sheet b) t v
+    × Stands (limitOf way) (count sheet 0) (takenBy way (count sheet 0)) (ahead sheet (count sheet 0) (count sheet 1)) (whole way sheet x) t v
 
 abbrev μ-loop : tie.MeasureT-loop
-μ-loop sheet b n many v₀ i₀ t₀ v i t = many - t
+μ-loop way sheet x n many v₀ i₀ t₀ v i t = many - t
 
 accepted : (s : tie.Start Inv-loop μ-loop) → Accepted (s .args .sheet .now)
 accepted s = s .pre .0
@@ -59,19 +61,20 @@ loop-holds : tie.Need-loop-holds Inv-loop μ-loop
 unfolding further factors
 loop-holds c = (omega arith, c .before .count-at .ensures, c .count-at2 .ensures, refl, record { small = c .before .before .pre .1; left = rw sub-zero (loop-start _ _ _ _) })
 
-allow-factor-requires : tie.Need-allow-factor-requires Inv-loop μ-loop
-allow-factor-requires c κs = let r = ranged (c .before) in (r .0, r .1, here c, c .before .loop .inv .4 .small)
+take-factor-requires : tie.Need-take-factor-requires Inv-loop μ-loop
+take-factor-requires c κs = let r = ranged (c .before) in (r .0, r .1, here c, c .before .loop .inv .4 .small)
 
-add-t10 : tie.Need-add-t10 Inv-loop μ-loop
-add-t10 c = let l = c .before .before .before .before .loop in omega arith
+add-t11 : tie.Need-add-t11 Inv-loop μ-loop
+add-t11 c = let l = c .before .before .before .before .loop in omega arith
 
 -- the step, of the order itself
 told :
-    (c : tie.After-allow-factor Inv-loop μ-loop) →
+    (c : tie.After-take-factor Inv-loop μ-loop) →
     let s = c .before .before .before .before .before .args .sheet .now in
     let l = c .before .before .loop in
-    Step mostAllowance (count s 0) (allow nearest (count s 0) (at-stage s (count s 0) (l .t)) (l .v)) (l .v) (c .allow-factor .result .ok) (c .allow-factor .result .block)
-told c = let l = c .before .before .loop in rw (l .inv .1, l .inv .3) at (c .allow-factor .ensures)
+    let way = c .before .before .before .before .before .args .way in
+    Step (limitOf way) (count s 0) (takenBy way (count s 0) (at-stage s (count s 0) (l .t)) (l .v)) (l .v) (c .take-factor .result .ok) (c .take-factor .result .block)
+told c = let l = c .before .before .loop in rw (l .inv .1, l .inv .3) at (c .take-factor .ensures)
 
 returns : tie.Need-returns Inv-loop μ-loop
 unfolding ranOk ranStage ranMemory
@@ -111,8 +114,8 @@ returns-2 c =
     let e : l .t ≡ count (s .args .sheet .now) 1 = omega (arith, l .inv .2) in
     rw (turns-done (ahead-listed (s .args .sheet .now) _ _) (rw e at (l .inv .4)))
 
-pub allow-all-spec : {M : Type 1} → statement M
-allow-all-spec =
+pub take-all-spec : {M : Type 1} → statement M
+take-all-spec =
     tie.close
     (tie.spec
     Inv-loop
@@ -120,8 +123,8 @@ allow-all-spec =
     count-at-requires
     count-at-requires-2
     loop-holds
-    allow-factor-requires
-    add-t10
+    take-factor-requires
+    add-t11
     returns
     next-factor-requires
     add-t
