@@ -18,7 +18,7 @@ line_call bench_forward, bench_inverse, twin_forward, twin_inverse;
 // Two dimensions: a column sheet, a row sheet, a block row by row, the room for the result.
 typedef struct answer block_call(const int32_t *col, size_t cn, const int32_t *row, size_t rn, const int32_t *x, size_t xn,
 				 int32_t *y, size_t yn);
-block_call bench_rectangle_forward, bench_rectangle_inverse; // not there yet: see main.c
+block_call bench_rectangle_forward, bench_rectangle_inverse;
 block_call twin2_forward, twin2_inverse;	// separable sums
 block_call plain2_forward, plain2_inverse;	// the double sum as document 01 prints it
 

@@ -185,6 +185,15 @@ static bool undo(const int32_t *at, size_t n, int32_t *x)
 	return true;
 }
 
+// Only a kind tells how long its factor is, so the factors before it are passed one by one: no table is built for a block.
+static const int32_t *start_of(const int32_t *s, size_t n, size_t many)
+{
+	const int32_t *f = s + 2;
+	for (size_t t = 0; t < many; t++)
+		f += numbers(f, n);
+	return f;
+}
+
 struct answer twin_forward(const int32_t *s, size_t sn, const int32_t *x, size_t xn, int32_t *y, size_t yn)
 {
 	struct answer a = check_run(s, sn, x, xn, yn);
@@ -209,15 +218,10 @@ struct answer twin_inverse(const int32_t *s, size_t sn, const int32_t *x, size_t
 	if (a.number)
 		return a;
 	size_t n = (size_t)s[0], many = (size_t)s[1];
-	const int32_t *starts[COUNT], *f = s + 2; // only a kind tells how long its factor is, so the starts are noted once
-	for (size_t t = 0; t < many; t++) {
-		starts[t] = f;
-		f += numbers(f, n);
-	}
 	int32_t v[ORDER] = {0};
 	memcpy(v, x, n * sizeof *x);
 	for (size_t t = 0; t < many; t++)
-		if (!undo(starts[many - 1 - t], n, v))
+		if (!undo(start_of(s, n, many - 1 - t), n, v))
 			return refused(11, 0, t + 1);
 	memcpy(y, v, n * sizeof *y);
 	return refused(0, 0, 0);

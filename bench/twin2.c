@@ -263,6 +263,16 @@ static inline struct answer forward(bool plain, const int32_t *col, size_t cn, c
 	return refused(0, 0, 0);
 }
 
+// The last of the first t factors: only a kind tells how long its factor is, so those before it are passed one by one.
+static struct spot spot_before(const int32_t *s, size_t t)
+{
+	size_t n = (size_t)s[0];
+	const int32_t *f = s + 2;
+	while (--t)
+		f += numbers(f, n);
+	return spot_at(f, n);
+}
+
 static inline struct answer inverse(bool plain, const int32_t *col, size_t cn, const int32_t *row, size_t rn, const int32_t *x,
 				    size_t xn, int32_t *y, size_t yn)
 {
@@ -270,23 +280,15 @@ static inline struct answer inverse(bool plain, const int32_t *col, size_t cn, c
 	if (c.number)
 		return c;
 	size_t many = (size_t)col[1];
-	struct spot a[COUNT], b[COUNT];
-	const int32_t *f = col + 2, *g = row + 2;
-	for (size_t t = 0; t < many; t++) {
-		a[t] = spot_at(f, (size_t)col[0]);
-		b[t] = spot_at(g, (size_t)row[0]);
-		f += numbers(f, a[t].n);
-		g += numbers(g, b[t].n);
-	}
 	int32_t v[ORDER * ORDER];
 	memcpy(v, x, xn * sizeof *x);
 	for (size_t t = 0; t < many; t++) {
-		size_t k = many - 1 - t;
+		struct spot a = spot_before(col, many - t), b = spot_before(row, many - t);
 		bool ok = true;
-		if (a[k].kind == 1)
-			unpermute(&a[k], &b[k], v);
+		if (a.kind == 1)
+			unpermute(&a, &b, v);
 		else
-			ok = plain ? plain_undo(&a[k], &b[k], v) : undo(&a[k], &b[k], v);
+			ok = plain ? plain_undo(&a, &b, v) : undo(&a, &b, v);
 		if (!ok)
 			return refused(11, 0, t + 1);
 	}

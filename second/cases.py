@@ -15,6 +15,7 @@ import struct
 import sys
 from collections import Counter, namedtuple
 
+import figures as laws
 import generate
 import model
 from generate import chance, numbers_of
@@ -379,6 +380,106 @@ def case_program(rng, longest):
 
 
 # ---------------------------------------------------------------------------
+# The laws of demand 3, tried on the library's own coefficients. Where a law
+# leaves room, Y holds the least coefficients before the call and the largest
+# after it. The cut law leaves none: the answer expected of the second part is
+# got from the whole run.
+
+
+def law_recipe(rng, longest, joint):
+    """A checked sheet or a checked pair: the laws speak of no other."""
+    if joint:
+        column, row = generate.longest_pair(rng, generate.faint_entry) if longest else generate.matching_pair(rng)
+        return numbers_of(column), numbers_of(row)
+    return numbers_of(generate.longest_draft(rng, generate.faint_entry) if longest else generate.some_draft(rng)), None
+
+
+def law_block(rng, recipe, longest):
+    if longest:
+        return [generate.small(rng) for _ in range(laws.block_length(recipe))]
+    return laws.some_input(rng, recipe)
+
+
+def around(exact, scale, room):
+    """The whole numbers y with 4096·|scale·y - exact| ≤ scale·room, least and largest."""
+    middle, reach, whole = 4096 * exact, scale * room, 4096 * scale
+    return -((reach - middle) // whole), (middle + reach) // whole
+
+
+def law_case(recipe, x, ranges):
+    """A forward run whose coefficients have to lie in those ranges."""
+    col, row = recipe
+    least, most = [low for low, _ in ranges], [high for _, high in ranges]
+    return Case(col, row or [], x, least, (0, 0, 0), most)
+
+
+def by_exact_product(rng, recipe, longest):
+    """4096·|D·y - E| ≤ D·b, around the exact product E."""
+    x = law_block(rng, recipe, longest)
+    answer, _ = laws.run_forward(recipe, x)
+    allowed, b = laws.run_allowance(recipe, len(x))
+    if answer != laws.OK or allowed != laws.OK:
+        return None
+    e, d = laws.exact(recipe, x)
+    return law_case(recipe, x, [around(e[m], d, b[m]) for m in range(len(x))])
+
+
+def by_difference(rng, recipe, longest):
+    """4096·|F(x) - F(z) - F(x-z)| ≤ 3·b, around F(x) - F(z)."""
+    x, z = law_block(rng, recipe, longest), law_block(rng, recipe, longest)
+    apart = [p - q for p, q in zip(x, z)]
+    (first, fx), (second, fz), (third, _) = [laws.run_forward(recipe, v) for v in (x, z, apart)]
+    allowed, b = laws.run_allowance(recipe, len(x))
+    if {first, second, third, allowed} != {laws.OK}:
+        return None
+    return law_case(recipe, apart, [around(fx[m] - fz[m], 1, 3 * b[m]) for m in range(len(x))])
+
+
+def case_law(rng, longest, joint):
+    """Either law, on a recipe and a block that it speaks of."""
+    law = rng.choice([by_exact_product, by_difference])
+    while True:
+        case = law(rng, law_recipe(rng, longest, joint), longest)
+        if case is not None:
+            return case
+
+
+def case_cut(rng, longest, joint):
+    """The second part of a cut recipe, on what the first part gave."""
+    while True:
+        recipe = law_recipe(rng, longest, joint)
+        col, row = recipe
+        if col[1] < 2:
+            continue
+        position = rng.randint(1, col[1] - 1)
+        (col1, col2), (row1, row2) = laws.cut_sheet(col, position), laws.cut_sheet(row, position) if joint else (None, None)
+        x = law_block(rng, recipe, longest)
+        first, between = laws.run_forward((col1, row1), x)
+        if first != laws.OK:
+            continue
+        number, side, stage = laws.run_forward(recipe, x)[0]
+        y = generate.lent(rng, len(x))
+        after = laws.run_forward(recipe, x)[1] if number == 0 else y
+        return Case(col2, row2 or [], between, y, (number, side, stage - position if number else 0), after)
+
+
+def case_line_law(rng, longest):
+    return case_law(rng, longest, False)
+
+
+def case_joint_law(rng, longest):
+    return case_law(rng, longest, True)
+
+
+def case_line_cut(rng, longest):
+    return case_cut(rng, longest, False)
+
+
+def case_joint_cut(rng, longest):
+    return case_cut(rng, longest, True)
+
+
+# ---------------------------------------------------------------------------
 # The stream
 
 CALLS = {
@@ -395,6 +496,10 @@ CALLS = {
     "joint-inverse": (11, case_joint_inverse),
     "joint-allowance": (12, case_joint_allowance),
     "program": (13, case_program),
+    "line-law": (14, case_line_law),
+    "joint-law": (15, case_joint_law),
+    "line-cut": (7, case_line_cut),
+    "joint-cut": (10, case_joint_cut),
 }
 
 

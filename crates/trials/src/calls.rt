@@ -94,6 +94,12 @@ pub fn answer(call: usize, a: &[i32], b: &[i32], x: &[i32], y: &mut [i32]) -> An
     if call == 13 {
         return program(a, y);
     }
+    if call == 14 {
+        return line::forward(a, x, y);
+    }
+    if call == 15 {
+        return rectangle::forward(a, b, x, y);
+    }
     unknown()
 }
 

@@ -5,6 +5,7 @@ use crate::calls::is_rest;
 use crate::parts::ROOM;
 use crate::parts::at;
 use crate::parts::is_answer;
+use crate::parts::is_between;
 use crate::parts::is_front;
 use crate::parts::load;
 use crate::parts::natural;
@@ -71,7 +72,8 @@ fn lay_out(head: &[i32; 5]) -> Layout {
     }
 }
 
-// Runs a case: whether its answer and the lent memory are the expected ones.
+// Runs a case: whether its answer and the lent memory are the expected ones. The calls after 13 try a law: their coefficients have
+// to lie between two blocks, the least in Y before the call and the largest in Y after it.
 fn judge(call: usize, c: Layout, w: &[i32]) -> bool {
     let a = part(w, 0, c.a);
     let b = part(w, c.a, c.b);
@@ -92,7 +94,11 @@ fn judge(call: usize, c: Layout, w: &[i32]) -> bool {
     if !is_answer(r, number, side, place) {
         return false;
     }
-    is_front(&room, part(w, c.after, c.end))
+    let after = part(w, c.after, c.end);
+    if call > 13 {
+        return is_between(&room, y, after);
+    }
+    is_front(&room, after)
 }
 
 // The rest of a case whose head was read.
@@ -131,7 +137,7 @@ fn next_case() -> Verdict {
 }
 
 // Runs case after case, and counts.
-pub fn run_all(counts: &mut [u64; 42]) -> End {
+pub fn run_all(counts: &mut [u64; 48]) -> End {
     for case in 0..MANY {
         let v = next_case();
         if v.call == 0 {

@@ -113,6 +113,20 @@ pub fn is_front(room: &[i32; ROOM], those: &[i32]) -> bool {
     true
 }
 
+// Whether the words at the front of a room lie between those of two slices.
+pub fn is_between(room: &[i32; ROOM], least: &[i32], most: &[i32]) -> bool {
+    let n = least.len();
+    if n > ROOM {
+        return false;
+    }
+    for k in 0..n {
+        if room[k] < least[k] || room[k] > at(most, k) {
+            return false;
+        }
+    }
+    true
+}
+
 // Whether an answer is the number, side and place of three words.
 pub fn is_answer(r: Answer, number: i32, side: i32, place: i32) -> bool {
     if number < 0 || side < 0 || place < 0 {

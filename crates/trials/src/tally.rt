@@ -1,11 +1,11 @@
 // How many cases of each call agreed. Three counts for each call: the cases that agree, those that differ, the first that differs.
 ghost use Prim.Native.Nat.{_≤_};
 
-const CALLS: usize = 13;
+const CALLS: usize = 15;
 
 // Where a call's counts stand. A number that is no call's counts as 0.
 fn slot(call: usize) -> usize
-    ensures { λ r. ⌜ r ≤ 39 ⌝ }
+    ensures { λ r. ⌜ r ≤ 45 ⌝ }
 {
     if call > CALLS {
         return 0;
@@ -14,7 +14,7 @@ fn slot(call: usize) -> usize
 }
 
 // One case more.
-pub fn note(counts: &mut [u64; 42], call: usize, case: u64, agrees: bool) {
+pub fn note(counts: &mut [u64; 48], call: usize, case: u64, agrees: bool) {
     let i = slot(call);
     if agrees {
         counts[i] = std::num::wrapping_add_u64(counts[i], 1);
@@ -42,6 +42,8 @@ fn print_name(call: usize) -> bool {
         11 => io::write_all(1, b"joint-inverse"),
         12 => io::write_all(1, b"joint-allowance"),
         13 => io::write_all(1, b"program"),
+        14 => io::write_all(1, b"line-law"),
+        15 => io::write_all(1, b"joint-law"),
         _ => io::write_all(1, b"no call"),
     }
 }
@@ -64,7 +66,7 @@ fn print_line(call: usize, agree: u64, differ: u64, first: u64) {
 }
 
 // A line for each call that had a case.
-pub fn print_all(counts: &[u64; 42]) {
+pub fn print_all(counts: &[u64; 48]) {
     for call in 0..CALLS + 1 {
         let i = slot(call);
         print_line(call, counts[i], counts[i + 1], counts[i + 2]);

@@ -57,11 +57,17 @@ returns-3 c = search needs
 part-requires-5 : tie.Need-part-requires-5
 part-requires-5 c κs = search needs
 
-is-front-requires : tie.Need-is-front-requires
-is-front-requires c κs = search needs
+is-between-requires : tie.Need-is-between-requires
+is-between-requires c κs = search needs
 
 returns-4 : tie.Need-returns-4
 returns-4 c = search needs
+
+is-front-requires : tie.Need-is-front-requires
+is-front-requires c κs = search needs
+
+returns-5 : tie.Need-returns-5
+returns-5 c = search needs
 
 pub judge-spec : {M : Type 1} → statement M
 judge-spec =
@@ -84,5 +90,7 @@ judge-spec =
     is-answer-requires
     returns-3
     part-requires-5
+    is-between-requires
+    returns-4
     is-front-requires
-    returns-4)
+    returns-5)

@@ -1,14 +1,14 @@
--- The loop: a call's three counts stand below 42.
+-- The loop: a call's three counts stand below 48.
 use Prim.Native.Nat.{_-_, _≤_}
 use borrow.Author.Needs.{needs}
 use Rattle.trials.proofs.tally.print_all.Statement.{statement}
 use Rattle.trials.proofs.tally.print_all.Tie as tie
 
 abbrev Inv-loop : tie.InvT-loop
-Inv-loop counts call₀ call = call ≤ 14
+Inv-loop counts call₀ call = call ≤ 16
 
 abbrev μ-loop : tie.MeasureT-loop
-μ-loop counts call₀ call = 14 - call
+μ-loop counts call₀ call = 16 - call
 
 loop-holds : tie.Need-loop-holds Inv-loop μ-loop
 loop-holds c = search needs
