@@ -2,12 +2,11 @@
 use borrow.Author.Needs.{needs}
 use borrow.Author.Tests.{not-true, not-false}
 use mathlib.Core.List.{List}
-use mathlib.Core.Path.{_≡_, refl, sym, ap, _∙_}
+use mathlib.Core.Path.{_≡_, refl, ap, _∙_}
 use Prim.Native.Nat.{ℕ, _-_, _≤_, _<_}
 use native.Mathlib.Numerals.{add-one}
 use native.Mathlib.Omega.{arith}
-use lib.Dec.{leb}
-use lib.IntN.{ℤ, natAbs}
+use lib.IntN.{ℤ}
 use lib.ListN.{length}
 use mir.Syntax.{w32, w64}
 use mir.Val.{toZ, ofZ}
@@ -15,7 +14,7 @@ use Rattle.whole.specs.Diff.{Within}
 use Rattle.whole.specs.Machine.{fits, reads, back}
 use Rattle.rules.specs.Numbers.{bound}
 use Rattle.rules.specs.Laws.Good.{Permutes}
-use Rattle.factor.specs.Reach.{Numbers, numbers-set, beyond-there, within-test}
+use Rattle.factor.specs.Reach.{Numbers, numbers-set, beyond-there, test-no, test-yes}
 use Rattle.factor.specs.Steps.{step-stops, step-goes}
 use Rattle.factor.specs.Walks.{walk, walk-stays}
 use Rattle.line.specs.Steps.{backAt, walkLine}
@@ -82,13 +81,13 @@ returns c =
     step-stops
     (beyond-there bound n (W s n) (P s t) (F s t) (permutes s .below t h)
     (walk-stays (permutes s) (backAt (s .args .sheet .now) (s .args .f)) (s .args .y) (let o = s .pre .0 .order in omega (arith, len s)) t n h (omega arith))
-    (ap (λ (z : ℤ). leb (natAbs z) bound) (sym (value (c .before .before))) ∙ sym (c .before .is-within .ensures) ∙ not-true _ (c .if1 .taken)))
+    (test-no bound (value (c .before .before)) (c .before .is-within .ensures) (not-true _ (c .if1 .taken))))
     (s .pre .2)
 
 held :
     (c : tie.Else1 Inv-loop μ-loop) →
     Within bound (F (c .before .before .before .before .before .before .before) (c .before .before .before .before .before .before .loop .t))
-held c = within-test bound _ (ap (λ (z : ℤ). leb (natAbs z) bound) (sym (value (c .before .before))) ∙ sym (c .before .is-within .ensures) ∙ not-false _ (c .if1 .left))
+held c = test-yes bound (value (c .before .before)) (c .before .is-within .ensures) (not-false _ (c .if1 .left))
 
 cast-x : tie.Need-cast-x Inv-loop μ-loop
 cast-x c = rw (value (c .before .before)) (fits (held c) tt)

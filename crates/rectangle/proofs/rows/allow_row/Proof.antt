@@ -1,17 +1,16 @@
 -- The block is as j turns leave it, and all of it is in bound; each turn makes the element from the tests and sums of row i (`link`).
 use borrow.Author.Tests.{not-true, not-false}
-use mathlib.Core.Path.{_≡_, refl, sym, ap, _∙_}
+use mathlib.Core.Path.{_≡_, refl, sym, _∙_}
 use Prim.Native.Nat.{ℕ, _+_, _-_, _*_, _≤_, _<_}
 use native.Mathlib.Numerals.{add-one}
 use native.Mathlib.Omega.{arith}
-use lib.Dec.{leb}
-use lib.IntN.{ℤ, natAbs}
+use lib.IntN.{ℤ}
 use mir.Syntax.{w32, w64}
 use mir.Val.{toZ, ofZ}
 use Rattle.whole.specs.Diff.{Within}
 use Rattle.whole.specs.Machine.{fits, reads, back}
 use Rattle.rules.specs.Numbers.{mostAllowance, at}
-use Rattle.factor.specs.Reach.{Numbers, numbers-set, within-test}
+use Rattle.factor.specs.Reach.{Numbers, numbers-set, test-no, test-yes}
 use Rattle.factor.specs.Walks.{walk}
 use Prim.Native.Nat.{_%_}
 use Rattle.rules.specs.Laws.Rect.{col-of}
@@ -95,12 +94,12 @@ returns c =
         before = l .loop-test .taken;
         far =
             rw (link (l .before .before) (l .before .loop .j) (l .loop-test .taken))
-            (ap (λ (z : ℤ). leb (natAbs z) mostAllowance) (sym (value (c .before .before))) ∙ sym (c .before .is-within .ensures) ∙ not-true _ (c .if1 .taken));
+            (test-no mostAllowance (value (c .before .before)) (c .before .is-within .ensures) (not-true _ (c .if1 .taken)));
       };
     }
 
 held : (c : tie.Else1 Inv-loop μ-loop) → Within mostAllowance (G (c .before .before .before .before .before .before .before) (P (c .before .before .before .before .before)))
-held c = within-test mostAllowance _ (ap (λ (z : ℤ). leb (natAbs z) mostAllowance) (sym (value (c .before .before))) ∙ sym (c .before .is-within .ensures) ∙ not-false _ (c .if1 .left))
+held c = test-yes mostAllowance (value (c .before .before)) (c .before .is-within .ensures) (not-false _ (c .if1 .left))
 
 cast-y : tie.Need-cast-y Inv-loop μ-loop
 cast-y c = rw (value (c .before .before)) (fits (held c) tt)

@@ -4,15 +4,14 @@ use mathlib.Core.Path.{_≡_, refl, sym, ap, _∙_}
 use Prim.Native.Nat.{ℕ, _+_, _-_, _*_, _≤_, _<_}
 use native.Mathlib.Numerals.{add-one}
 use native.Mathlib.Omega.{arith}
-use lib.Dec.{leb}
-use lib.IntN.{ℤ, natAbs}
+use lib.IntN.{ℤ}
 use lib.ListN.{length}
 use mir.Syntax.{w32, w64}
 use mir.Val.{toZ, ofZ}
 use Rattle.whole.specs.Diff.{Within}
 use Rattle.whole.specs.Machine.{fits, reads, back}
 use Rattle.rules.specs.Numbers.{bound, at}
-use Rattle.factor.specs.Reach.{Numbers, numbers-set, within-test}
+use Rattle.factor.specs.Reach.{Numbers, numbers-set, test-no, test-yes}
 use Rattle.factor.specs.Walks.{walk}
 use lib.IntN.{_+ℤ_, _-ℤ_, _*ℤ_}
 use Rattle.whole.specs.Machine.{within-+, within--, within-*}
@@ -112,12 +111,12 @@ returns c =
         before = p .before .loop-test .taken;
         far =
             rw (← (p .before .before .loop .inv .1), ← (p .place-of .ensures))
-            (ap (λ (z : ℤ). leb (natAbs z) bound) (sym (value (c .before .before))) ∙ sym (c .before .is-within .ensures) ∙ not-true _ (c .if1 .taken));
+            (test-no bound (value (c .before .before)) (c .before .is-within .ensures) (not-true _ (c .if1 .taken)));
       };
     }
 
 held : (c : tie.Else1 Inv-loop μ-loop) → Within bound (F (c .before .before .before .before .before .before))
-held c = within-test bound _ (ap (λ (z : ℤ). leb (natAbs z) bound) (sym (value (c .before .before))) ∙ sym (c .before .is-within .ensures) ∙ not-false _ (c .if1 .left))
+held c = test-yes bound (value (c .before .before)) (c .before .is-within .ensures) (not-false _ (c .if1 .left))
 
 cast-x : tie.Need-cast-x Inv-loop μ-loop
 cast-x c = rw (value (c .before .before)) (fits (held c) tt)

@@ -1,17 +1,16 @@
 -- The block is as j turns leave it, and all of it is in bound.
 use borrow.Author.Tests.{not-true, not-false}
-use mathlib.Core.Path.{_≡_, refl, sym, ap, _∙_}
+use mathlib.Core.Path.{_≡_, refl, sym, _∙_}
 use Prim.Native.Nat.{ℕ, _+_, _-_, _*_, _≤_, _<_}
 use native.Mathlib.Numerals.{add-one}
 use native.Mathlib.Omega.{arith}
-use lib.Dec.{leb}
-use lib.IntN.{ℤ, natAbs}
+use lib.IntN.{ℤ}
 use mir.Syntax.{w32, w64}
 use mir.Val.{toZ, ofZ}
 use Rattle.whole.specs.Diff.{Within}
 use Rattle.whole.specs.Machine.{fits, reads, back}
 use Rattle.rules.specs.Numbers.{bound}
-use Rattle.factor.specs.Reach.{Numbers, numbers-set, within-test}
+use Rattle.factor.specs.Reach.{Numbers, numbers-set, test-no, test-yes}
 use Rattle.factor.specs.Walks.{walk}
 use Rattle.rectangle.specs.Elements.{signAt, outOf, sums-small}
 use Rattle.rectangle.specs.Went.{plain, inRow, out-here, in-block}
@@ -85,12 +84,12 @@ returns c =
       stuck = λ e. record {
         turn = l .before .loop .j;
         before = l .loop-test .taken;
-        far = ap (λ (z : ℤ). leb (natAbs z) bound) (sym (value (c .before .before))) ∙ sym (c .before .is-within .ensures) ∙ not-true _ (c .if1 .taken);
+        far = test-no bound (value (c .before .before)) (c .before .is-within .ensures) (not-true _ (c .if1 .taken));
       };
     }
 
 held : (c : tie.Else1 Inv-loop μ-loop) → Within bound (F (c .before .before .before .before .before .before))
-held c = within-test bound _ (ap (λ (z : ℤ). leb (natAbs z) bound) (sym (value (c .before .before))) ∙ sym (c .before .is-within .ensures) ∙ not-false _ (c .if1 .left))
+held c = test-yes bound (value (c .before .before)) (c .before .is-within .ensures) (not-false _ (c .if1 .left))
 
 cast-y : tie.Need-cast-y Inv-loop μ-loop
 cast-y c = rw (value (c .before .before)) (fits (held c) tt)
