@@ -1,7 +1,3 @@
-pub mod Sums
-pub mod Elements
-pub mod Sizes
-pub mod Went
 pub mod Moves
 pub mod Multiples
 pub mod Weights

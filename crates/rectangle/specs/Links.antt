@@ -30,9 +30,9 @@ use Rattle.factor.specs.Spots.{rowIn, spotBy, spotAt, rowOf, placeOf}
 use Rattle.factor.specs.Wholes.{row-whole}
 use Rattle.factor.specs.Turns.{places-permute, later-blind}
 use Rattle.factor.specs.Walks.{walk, walk-undoes}
-use Rattle.rectangle.specs.Sums.{inColumn, columnSums, jointSum}
-use Rattle.rectangle.specs.Elements.{signAt, ownOf, sumsAt, nudge, outAt, backAt, outOf, backOf}
-use Rattle.rectangle.specs.Sizes.{sizeSums, sizeSum, wholeRow, allowAt, allowOf}
+use Rattle.joint.specs.Sums.{inColumn, columnSums, jointSum}
+use Rattle.joint.specs.Elements.{signAt, ownOf, sumsAt, nudge, outAt, backAt, outOf, backOf}
+use Rattle.joint.specs.Sizes.{sizeSums, sizeSum, wholeRow, allowAt, allowOf}
 use Rattle.rectangle.specs.Multiples.{joint-whole}
 use Rattle.rectangle.specs.Moves.{sourceOf}
 use Rattle.rectangle.specs.Weights.{own-there, across-row, size-there, sizes-row-is}

@@ -15,10 +15,6 @@ use rules::Answer;
 use sheet::check_pair;
 use sheet::places::count_at;
 
-mod sums; // the sum of an element in two steps: over the columns, then over a row of such sums
-mod elements; // one element applied and undone
-mod allowances; // one element's allowance
-mod rows; // one row of elements
 mod steps; // a pair of factors with weights
 mod moves; // a pair of permutations
 mod stages; // one stage: the factors at two places of the sheets

@@ -6,12 +6,12 @@ ghost use Rattle.factor.specs.Reach.{Numbers};
 ghost use Rattle.factor.specs.Lies.{Lies};
 ghost use Rattle.factor.specs.Steps.{Step};
 ghost use Rattle.factor.specs.Walks.{walk};
-ghost use Rattle.rectangle.specs.Elements.{outOf, backOf};
-ghost use Rattle.rectangle.specs.Sizes.{allowOf};
+ghost use Rattle.joint.specs.Elements.{outOf, backOf};
+ghost use Rattle.joint.specs.Sizes.{allowOf};
 ghost use Rattle.rectangle.specs.Order.{pairPlace};
-use crate::rows::allow_row;
-use crate::rows::unweigh_row;
-use crate::rows::weigh_row;
+use joint::rows::allow_row;
+use joint::rows::unweigh_row;
+use joint::rows::weigh_row;
 use factor::Spot;
 use factor::place_of;
 

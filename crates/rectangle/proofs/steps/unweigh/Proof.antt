@@ -15,9 +15,9 @@ use Rattle.factor.specs.Walks.{walk, length-walk}
 use Rattle.rules.specs.Laws.Good.{Permutes}
 use Rattle.factor.specs.Spots.{placeOf}
 use Rattle.factor.specs.Turns.{places-permute}
-use Rattle.rectangle.specs.Elements.{backOf}
+use Rattle.joint.specs.Elements.{backOf}
 use Rattle.rectangle.specs.Order.{pairPlace, pair-permutes, pair-row}
-use Rattle.rectangle.specs.Went.{inRow, row-stuck, row-on, no-row}
+use Rattle.joint.specs.Went.{inRow, row-stuck, row-on, no-row}
 use Rattle.rectangle.proofs.steps.unweigh.Statement.{statement}
 use Rattle.rectangle.proofs.steps.unweigh.Tie as tie
 

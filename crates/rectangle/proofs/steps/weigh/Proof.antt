@@ -13,8 +13,8 @@ use Rattle.rules.specs.Stages.{fill, inside}
 use Rattle.factor.specs.Reach.{Numbers}
 use Rattle.factor.specs.Steps.{step-stops, step-goes}
 use Rattle.factor.specs.Walks.{walk}
-use Rattle.rectangle.specs.Elements.{outOf}
-use Rattle.rectangle.specs.Went.{plain, inRow, walk-fill, same-permutes, row-stuck, row-on, no-row}
+use Rattle.joint.specs.Elements.{outOf}
+use Rattle.joint.specs.Went.{plain, inRow, walk-fill, same-permutes, row-stuck, row-on, no-row}
 use Rattle.rectangle.proofs.steps.weigh.Statement.{statement}
 use Rattle.rectangle.proofs.steps.weigh.Tie as tie
 
