@@ -1,7 +1,7 @@
 // One element of a stage: the sum rounded, the sign, the bound. In 64 bits; each `requires` says that nothing wraps.
 ghost use mathlib.Core.Path.{_≡_};
 ghost use lib.Dec.{T, leb};
-ghost use lib.IntN.{ℤ, pos, natAbs, _+ℤ_, _-ℤ_, _*ℤ_};
+ghost use lib.IntN.{pos, natAbs, _+ℤ_, _-ℤ_, _*ℤ_};
 ghost use lib.Signed.{nonNeg, shrZ};
 ghost use mir.Syntax.{w64};
 ghost use mir.Val.{SFits};

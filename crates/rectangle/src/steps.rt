@@ -9,11 +9,11 @@ ghost use Rattle.factor.specs.Walks.{walk};
 ghost use Rattle.joint.specs.Elements.{outOf, backOf};
 ghost use Rattle.joint.specs.Sizes.{allowOf};
 ghost use Rattle.rectangle.specs.Order.{pairPlace};
+use factor::Spot;
+use factor::place_of;
 use joint::rows::allow_row;
 use joint::rows::unweigh_row;
 use joint::rows::weigh_row;
-use factor::Spot;
-use factor::place_of;
 
 // Whether every number is in bound, and the new block; else the block as it was.
 pub struct Stepped {

@@ -1,6 +1,6 @@
 -- The signs, the number and the rounded sum are small, and so is what is made of them.
 use mathlib.Core.Path.{_≡_, _∙_}
-use lib.IntN.{ℤ, _*ℤ_}
+use lib.IntN.{_*ℤ_}
 use mir.Facts.{toZ-ofZ}
 use mir.Syntax.{w32, w64}
 use mir.Val.{toZ, ofZ}

@@ -1,6 +1,6 @@
 -- The sum so far is the sum of the first j terms; each term and each sum is small (`wide-small`).
 use mathlib.Core.Path.{_≡_, refl}
-use Prim.Native.Nat.{_+_, _-_, _*_, _≤_}
+use Prim.Native.Nat.{_+_, _-_, _≤_}
 use native.Mathlib.Numerals.{add-one}
 use native.Mathlib.Omega.{arith}
 use lib.IntN.{_*ℤ_}
