@@ -12,7 +12,7 @@ use lib.ListN.{length}
 use Rattle.rules.specs.declared.Answer.{Answer}
 use Rattle.rules.specs.Stages.{Rule, Ran, runAllowance}
 use Rattle.rules.specs.Answers.{accepted, refused, _or-else_}
-use Rattle.rules.specs.Calls.{Gives, reply, Plan, sized, ranAnswer, ranMemory, runReply, allowanceCall}
+use Rattle.rules.specs.Calls.{Reply, Gives, reply, Plan, sized, ranAnswer, ranMemory, runReply, allowanceCall}
 use Rattle.laws.specs.Accepted.{both-fine}
 
 -- 10 by the lengths
@@ -72,6 +72,10 @@ sizes n x y d = in-turn (sized 0 n x) (sized 1 n y) d ∙ ap (λ (z : Answer). z
     split (yes e) = turn-on (sized 0 n x) (sized 1 n y) (rw (eq-eqb (length x) n e)) ∙ rw (eq-eqb (length x) n e)
     split (no e) = rw (ne-eqb (length x) n e) (turn-stop (refused 10 0 0) (sized 1 n y) (λ z. omega arith))
 
+-- the reply to a run whose sheets and lengths are fine: 11 or 13, or the numbers in the output
+abbrev pub ranReply : ℕ → Ran → List ℤ → Reply ℤ
+ranReply number ran y = reply (ranAnswer number ran) (ranMemory ran y) y
+
 -- ---- a run over a plan
 module _ (p : Plan) (x y : List ℤ) {q : Answer} (e : q ≡ p .sheets or-else lengthsOf (p .size) (length x) (length y)) where
   turns : (d : Answer) → p .sheets or-else (sized 0 (p .size) x or-else (sized 1 (p .size) y or-else d)) ≡ (p .sheets or-else lengthsOf (p .size) (length x) (length y)) or-else d
@@ -81,7 +85,7 @@ module _ (p : Plan) (x y : List ℤ) {q : Answer} (e : q ≡ p .sheets or-else l
   unfolding runReply
   run-stops ran h = rw (turns (ranAnswer 11 ran)) (stops _ (ranAnswer 11 ran) (ranMemory ran y) y e h)
 
-  pub run-goes : (ran : Ran) → q .number ≡ 0 → runReply p ran x y ≡ reply (ranAnswer 11 ran) (ranMemory ran y) y
+  pub run-goes : (ran : Ran) → q .number ≡ 0 → runReply p ran x y ≡ ranReply 11 ran y
   unfolding runReply
   run-goes ran h = rw (turns (ranAnswer 11 ran)) (goes _ (ranAnswer 11 ran) (ranMemory ran y) y e h)
 
@@ -103,7 +107,7 @@ module _ (rule : Rule) (p : Plan) (y : List ℤ) {q : Answer} (e : q ≡ p .shee
   unfolding allowanceCall
   allow-stops h = rw (allow-turns (ranAnswer 13 ran)) (stops _ (ranAnswer 13 ran) (ranMemory ran y) y e h)
 
-  pub allow-goes : q .number ≡ 0 → allowanceCall rule p y ≡ reply (ranAnswer 13 (runAllowance rule (p .size) (p .stages))) (ranMemory (runAllowance rule (p .size) (p .stages)) y) y
+  pub allow-goes : q .number ≡ 0 → allowanceCall rule p y ≡ ranReply 13 (runAllowance rule (p .size) (p .stages)) y
   unfolding allowanceCall
   allow-goes h = rw (allow-turns (ranAnswer 13 ran)) (goes _ (ranAnswer 13 ran) (ranMemory ran y) y e h)
 

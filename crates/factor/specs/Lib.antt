@@ -6,5 +6,9 @@ pub mod Walks
 pub mod Turns
 pub mod Magnitudes
 pub mod Wholes
+pub mod Ways
+pub mod Steps
 pub mod Loops
 pub mod Answers
+pub mod Blocks
+pub mod Ends

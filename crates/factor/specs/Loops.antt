@@ -4,23 +4,40 @@ use mathlib.Core.List.{List, [], _∷_}
 use mathlib.Core.Path.{_≡_, ap, _∙_}
 use Prim.Native.Nat.{ℕ, _+_, _<_}
 use lib.IntN.{ℤ}
-use Rattle.rules.specs.Stages.{Stage, Ran, done, beyond, later, run}
+use Rattle.rules.specs.Stages.{Stage, Ran, done, beyond, inside, later, run}
 use Rattle.rules.specs.Laws.Runs.{loop-step, loop-refused, loop-end}
+use Rattle.factor.specs.Reach.{Numbers, numbers-inside}
+use Rattle.factor.specs.Steps.{Step, step-no, step-yes}
 
 -- K stages one by one, and the lists of those that are left
 pub record Listed (K : ℕ) (stage : ℕ → Stage) (rest : ℕ → List Stage) : Type 0 where
   pub next : (t : ℕ) → t < K → rest t ≡ stage t ∷ rest (t + 1)
   pub end : rest K ≡ []
 
-module _ (ok : List ℤ → Bool) (step : Stage → List ℤ → List ℤ) {K : ℕ} {stage : ℕ → Stage} {rest : ℕ → List Stage} (h : Listed K stage rest) where
+-- a run that stands at the block v, in bound, after t stages
+pub record Stands (most n : ℕ) (step : Stage → List ℤ → List ℤ) (rest : ℕ → List Stage) (ran : Ran) (t : ℕ) (v : List ℤ) : Type 0 where
+  pub small : Numbers most v
+  pub left : ran ≡ later t (run (inside most n) step (rest t) v)
+
+module _ {most n : ℕ} {step : Stage → List ℤ → List ℤ} {K : ℕ} {stage : ℕ → Stage} {rest : ℕ → List Stage} (h : Listed K stage rest) where
+  -- the next stage, taken; its block may still be beyond the bound
+  turn :
+      {ran : Ran} (t : ℕ) (v : List ℤ) → t < K → Stands most n step rest ran t v →
+      ran ≡ later (t + 1) (run (inside most n) step (rest (t + 1)) (step (stage t) v))
+  turn t v l s =
+      s .left ∙ ap (λ (ss : List Stage). later t (run (inside most n) step ss v)) (h .next t l)
+      ∙ loop-step (inside most n) step t (stage t) (rest (t + 1)) v (numbers-inside n (s .small))
+
   pub turn-on :
-      {r : Ran} (t : ℕ) (v : List ℤ) → t < K → ok v ≡ true → r ≡ later t (run ok step (rest t) v) →
-      r ≡ later (t + 1) (run ok step (rest (t + 1)) (step (stage t) v))
-  turn-on t v l o e = e ∙ ap (λ (ss : List Stage). later t (run ok step ss v)) (h .next t l) ∙ loop-step ok step t (stage t) (rest (t + 1)) v o
+      {ran : Ran} (t : ℕ) {v u : List ℤ} {ok : Bool} → t < K → Stands most n step rest ran t v → Step most n (step (stage t) v) v ok u → ok ≡ true →
+      Stands most n step rest ran (t + 1) u
+  turn-on t {v} l s e o = record { small = e .small; left = rw (step-yes e o) (turn t v l s) }
 
   pub turn-stop :
-      {r : Ran} (t : ℕ) (v : List ℤ) → t < K → ok v ≡ true → ok (step (stage t) v) ≡ false → r ≡ later t (run ok step (rest t) v) → r ≡ beyond (t + 1)
-  turn-stop t v l o b e = turn-on t v l o e ∙ loop-refused ok step (t + 1) (rest (t + 1)) (step (stage t) v) b
+      {ran : Ran} (t : ℕ) {v u : List ℤ} {ok : Bool} → t < K → Stands most n step rest ran t v → Step most n (step (stage t) v) v ok u → ok ≡ false →
+      ran ≡ beyond (t + 1)
+  turn-stop t {v} l s e o = turn t v l s ∙ loop-refused (inside most n) step (t + 1) (rest (t + 1)) (step (stage t) v) (step-no e o)
 
-  pub turns-done : {r : Ran} (v : List ℤ) → ok v ≡ true → r ≡ later K (run ok step (rest K) v) → r ≡ done v
-  turns-done v o e = e ∙ ap (λ (ss : List Stage). later K (run ok step ss v)) (h .end) ∙ loop-end ok step K v o
+  pub turns-done : {ran : Ran} {v : List ℤ} → Stands most n step rest ran K v → ran ≡ done v
+  turns-done {ran} {v} s =
+      s .left ∙ ap (λ (ss : List Stage). later K (run (inside most n) step ss v)) (h .end) ∙ loop-end (inside most n) step K v (numbers-inside n (s .small))

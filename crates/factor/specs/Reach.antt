@@ -1,6 +1,6 @@
 -- WHAT A SUM ASKS: its numbers are there, and small enough for 64 bits.
 use mathlib.Core.List.{List}
-use mathlib.Core.Bool.{true, false}
+use mathlib.Core.Bool.{Bool, true, false}
 use mathlib.Core.Path.{_≡_, refl, sym, ap, ap₂, _∙_}
 use Prim.Native.Nat.{ℕ, zero, suc, _+_, _-_, _*_, _/_, _≤_, _<_}
 use native.Mathlib.Decide.{ℕ-discrete, decLt}
@@ -164,8 +164,16 @@ numbers-set {B} v k {z} h w = record { small = λ i. go i (ℕ-discrete i k) (de
 pub beyond-there : (B n : ℕ) (v : List ℤ) (k : ℕ) (z : ℤ) → k < n → at v k ≡ z → leb (natAbs z) B ≡ false → inside B n v ≡ false
 beyond-there B n v k z l e h = inside-no B n v k l (rw e (leb-false (natAbs z) B h))
 
-pub within-test : (B : ℕ) (z : ℤ) → leb (natAbs z) B ≡ true → Within B z
-within-test B z h = record { within = leb-true (natAbs z) B h }
+-- what the test of a number told; v is that number, z as the code holds it
+module _ (B : ℕ) {z v : ℤ} {ok : Bool} (e : z ≡ v) (t : ok ≡ leb (natAbs z) B) where
+  told : leb (natAbs v) B ≡ ok
+  told = ap (λ (u : ℤ). leb (natAbs u) B) (sym e) ∙ sym t
+
+  pub test-no : ok ≡ false → leb (natAbs v) B ≡ false
+  test-no h = told ∙ h
+
+  pub test-yes : ok ≡ true → Within B v
+  test-yes h = record { within = leb-true (natAbs v) B (told ∙ h) }
 
 pub numbers-fill : {B : ℕ} (n : ℕ) (f : ℕ → ℤ) {v : List ℤ} → Numbers B v → ((e : ℕ) → Within B (f e)) → Numbers B (fill n f v)
 unfolding fill

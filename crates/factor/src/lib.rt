@@ -6,15 +6,18 @@ ghost use mir.Val.{Fits};
 ghost use Rattle.rules.specs.Numbers.{mostOrder, count};
 ghost use Rattle.rules.specs.Sheets.{triangle};
 ghost use Rattle.rules.specs.Factors.{above};
+ghost use Rattle.rules.specs.Answers.{start};
 ghost use Rattle.laws.specs.Readers.{Seen};
-ghost use Rattle.laws.specs.Accepted.{FactorRead};
+ghost use Rattle.laws.specs.Accepted.{Accepted, FactorRead};
 ghost use Rattle.factor.specs.Spots.{spot, spotAt, rowOf, placeOf, isMove};
 use rules::Item;
 use rules::Kind;
 use sheet::places::count_at;
 use sheet::places::kind_at;
+use sheet::places::next_factor;
 
 pub mod answers; // 10: the lengths of lent slices
+pub mod block; // the block between the lent slices and the runs
 pub mod bounds; // stage 0
 pub mod magnitudes; // what an allowance asks of entries
 pub mod rounding; // one element: rounding, sign, bound
@@ -34,6 +37,12 @@ pub struct Row {
     pub at: usize,
     pub left: usize,
     pub right: usize,
+}
+
+// What goes through the stages, first to last: the numbers of a block, or the allowances of its coefficients.
+pub enum Way {
+    Applied,
+    Allowed,
 }
 
 // A factor at i that has no row of its own: its signs follow the kind number.
@@ -63,6 +72,18 @@ fn spot_with_row(sheet: &[i32], n: usize, i: usize) -> Spot
         signs: i + 2,
         entries: i + 2 + n,
     }
+}
+
+// Where factor f starts: the factors before it are passed one by one, since only a kind tells how long its factor is.
+pub fn start_of(sheet: &[i32], n: usize, f: usize) -> usize
+    requires { ⌜ Accepted (now sheet) × (n ≡ count (now sheet) 0) × (f < count (now sheet) 1) ⌝ }
+    ensures { λ r. ⌜ r ≡ start (now (sheet .entry)) f ⌝ }
+{
+    let mut i = 2;
+    for k in 0..f {
+        i = next_factor(sheet, n, i);
+    }
+    i
 }
 
 // The factor whose kind number stands at i.

@@ -1,11 +1,10 @@
 // What an allowance asks of a row's entries: their magnitudes, and whether all are multiples of 4096.
 ghost use mathlib.Core.Path.{_≡_};
-ghost use Prim.Native.Nat.{_%_, _≤_, _<_};
+ghost use Prim.Native.Nat.{_%_};
 ghost use lib.Dec.{eqb};
 ghost use lib.IntN.{pos, natAbs};
-ghost use lib.ListN.{length};
 ghost use Rattle.whole.specs.Diff.{Within};
-ghost use Rattle.rules.specs.Numbers.{unit, mostEntry, at};
+ghost use Rattle.rules.specs.Numbers.{unit, mostEntry};
 ghost use Rattle.factor.specs.Magnitudes.{magnitudesOf, Entries, whole};
 use sheet::places::size;
 

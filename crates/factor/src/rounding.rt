@@ -1,7 +1,7 @@
 // One element of a stage: the sum rounded, the sign, the bound. In 64 bits; each `requires` says that nothing wraps.
 ghost use mathlib.Core.Path.{_≡_};
 ghost use lib.Dec.{T, leb};
-ghost use lib.IntN.{ℤ, pos, natAbs, _+ℤ_, _-ℤ_, _*ℤ_};
+ghost use lib.IntN.{pos, natAbs, _+ℤ_, _-ℤ_, _*ℤ_};
 ghost use lib.Signed.{nonNeg, shrZ};
 ghost use mir.Syntax.{w64};
 ghost use mir.Val.{SFits};
@@ -36,6 +36,14 @@ pub fn undone(d: i32, y: i32, q: i64) -> i64
     ensures { λ r. ⌜ r ≡ d *ℤ (y -ℤ q) ⌝ }
 {
     (d as i64) * ((y as i64) - q)
+}
+
+// b + q + share: an allowance, and what a stage adds to it.
+pub fn raised(b: i32, q: i64, share: i64) -> i64
+    requires { ⌜ SFits w64 b × SFits w64 (b +ℤ q) × SFits w64 ((b +ℤ q) +ℤ share) ⌝ }
+    ensures { λ r. ⌜ r ≡ (b +ℤ q) +ℤ share ⌝ }
+{
+    (b as i64) + q + share
 }
 
 // Whether a number lies between -most and most.

@@ -2,6 +2,4 @@ pub mod Steps
 pub mod Values
 pub mod Links
 pub mod Runs
-pub mod Block
-pub mod Ends
 pub mod Promises

@@ -1,5 +1,5 @@
 -- ONE FACTOR OF A LINE, as the code goes through it, is the document's stage: applied, undone, and for allowances.
-use mathlib.Core.Bool.{Bool, true, cond}
+use mathlib.Core.Bool.{Bool, cond}
 use mathlib.Core.List.{List}
 use mathlib.Core.Logic.{_≢_}
 use mathlib.Core.Path.{_≡_, refl, sym, ap, ap₂, _∙_, subst}
@@ -20,13 +20,15 @@ use Rattle.rules.specs.Laws.Lists.{fill-same, put-same}
 use Rattle.laws.specs.Accepted.{FactorRead}
 use Rattle.laws.specs.Sound.{factor-sound}
 use Rattle.factor.specs.declared.Spot.{Spot}
+use Rattle.factor.specs.declared.Way.{Way}
+use Rattle.factor.specs.declared.Way.the-variants.{Applied, Allowed}
+use Rattle.factor.specs.Ways.{takenBy}
 use Rattle.factor.specs.Spots.{rowIn, spotBy, spotAt}
 use Rattle.factor.specs.Rows.{row-sum}
 use Rattle.factor.specs.Wholes.{row-whole}
 use Rattle.factor.specs.Turns.{places-permute, later-blind}
 use Rattle.factor.specs.Walks.{walk-undoes}
-use Rattle.factor.specs.Reach.{Numbers, numbers-inside}
-use Rattle.line.specs.Steps.{stepped, nudge, outAt, backAt, allowAt, walkLine}
+use Rattle.line.specs.Steps.{nudge, outAt, backAt, allowAt, walkLine}
 
 module _ (s : List ℤ) (n i : ℕ) where
   abbrev F : Factor
@@ -102,18 +104,11 @@ module _ (s : List ℤ) (n i : ℕ) where
     unfolding factorAt spotAt spotBy signsAt
     place-there m = rw q
 
-    pub permute-is : (x : List ℤ) → fill n (λ e. at x (count s (spotAt s n i .signs + e))) x ≡ forward nearest n (lineStage n (factorAt s n i)) x
-    unfolding forward
-    permute-is x = fill-same n _ _ x (λ e l. rw (place-there e)) ∙ ap (λ (t : Stage). forward nearest n t x) (sym (moving q))
-
-    pub permute-allows : (b : List ℤ) → fill n (λ e. at b (count s (spotAt s n i .signs + e))) b ≡ allow nearest n (lineStage n (factorAt s n i)) b
-    unfolding allow
-    permute-allows b = fill-same n _ _ b (λ e l. rw (place-there e)) ∙ ap (λ (t : Stage). allow nearest n t b) (sym (moving q))
+    pub permute-is : (way : Way) (x : List ℤ) → fill n (λ e. at x (count s (spotAt s n i .signs + e))) x ≡ takenBy way n (lineStage n (factorAt s n i)) x
+    unfolding takenBy forward allow
+    permute-is Applied x = fill-same n _ _ x (λ e l. rw (place-there e)) ∙ ap (λ (t : Stage). forward nearest n t x) (sym (moving q))
+    permute-is Allowed x = fill-same n _ _ x (λ e l. rw (place-there e)) ∙ ap (λ (t : Stage). allow nearest n t x) (sym (moving q))
 
     pub unpermute-is : (y : List ℤ) → putBack n (λ e. count s (spotAt s n i .signs + e)) y ≡ undo nearest n (lineStage n (factorAt s n i)) y
     unfolding undo
     unpermute-is y = put-same n _ _ y place-there ∙ ap (λ (t : Stage). undo nearest n t y) (sym (moving q))
-
--- a step that only moves numbers is accepted
-pub moved : {B : ℕ} (n : ℕ) {y new : List ℤ} (x : List ℤ) → y ≡ new → Numbers B new → (record { ok = true; block = y } ≡ stepped B n new x) × Numbers B y
-moved {B} n {y} {new} x e h = rw (e, numbers-inside n h) (refl, h)

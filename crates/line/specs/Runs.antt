@@ -1,35 +1,35 @@
 -- ALL FACTORS OF A LINE: the stages one by one, forward and back, as the loops of the code meet them.
-use mathlib.Core.Bool.{Bool, true, false, cond}
 use mathlib.Core.List.{List, [], _∷_, _++_, reverse, reverse-append}
-use mathlib.Core.Path.{_≡_, refl, sym, ap, _∙_}
+use mathlib.Core.Path.{_≡_, refl, ap, _∙_}
 use Prim.Native.Nat.{ℕ, suc, _+_, _-_, _<_}
 use native.Mathlib.Nat.{sub-self}
 use native.Mathlib.Omega.{arith}
 use lib.IntN.{ℤ}
-use Rattle.rules.specs.Factors.{factorAt, factorsFrom}
-use Rattle.rules.specs.Stages.{Stage, Ran, done, beyond, inside}
+use Rattle.rules.specs.Numbers.{count}
+use Rattle.rules.specs.Factors.{factorAt, factorsFrom, factors}
+use Rattle.rules.specs.Stages.{Stage, Ran}
 use Rattle.rules.specs.Shapes.{lineStage, lineStages}
 use Rattle.rules.specs.Answers.{further}
+use Rattle.rules.specs.Calls.{ranMemory}
 use Rattle.rules.specs.Laws.Cuts.{lines-append}
-use Rattle.laws.specs.Accepted.{further-next}
-use Rattle.laws.specs.Sound.{factors-split}
+use Rattle.rules.specs.Laws.Good.{AllGood}
+use Rattle.rules.specs.Laws.Kinds.{lines-good}
+use Rattle.laws.specs.Accepted.{Accepted, further-next}
+use Rattle.laws.specs.Sound.{sheet-sound, factors-split}
+use Rattle.factor.specs.Blocks.{ranOk, ranStage}
 use Rattle.factor.specs.Loops.{Listed}
-use Rattle.line.specs.declared.steps.Stepped.{Stepped}
 use Rattle.line.specs.declared.runs.Outcome.{Outcome}
-use Rattle.line.specs.Steps.{stepped}
 
 -- what a run gives, as the code holds it; a refused run holds the block that it was given
-unfoldable pub outcome : Ran → List ℤ → Outcome
-outcome (done v) x = record { ok = true; stage = 0; block = v }
-outcome (beyond s) x = record { ok = false; stage = s; block = x }
+abbrev pub outcome : Ran → List ℤ → Outcome
+outcome ran x = record { ok = ranOk ran; stage = ranStage ran; block = ranMemory ran x }
 
--- ---- what a step told
-pub step-no : (B n : ℕ) (new old : List ℤ) {r : Stepped} → r ≡ stepped B n new old → r .ok ≡ false → inside B n new ≡ false
-step-no B n new old e h = sym (ap (λ (r : Stepped). r .ok) e) ∙ h
+-- the stages of a sheet
+abbrev pub stagesOf : List ℤ → List Stage
+stagesOf s = lineStages (count s 0) (factors s)
 
-pub step-yes : (B n : ℕ) (new old : List ℤ) {r : Stepped} → r ≡ stepped B n new old → r .ok ≡ true → r .block ≡ new
-step-yes B n new old e h =
-    ap (λ (r : Stepped). r .block) e ∙ ap (λ (b : Bool). cond b new old) (sym (ap (λ (r : Stepped). r .ok) e) ∙ h)
+pub stages-good : {s : List ℤ} → Accepted s → AllGood (count s 0) (stagesOf s)
+stages-good a = lines-good (sheet-sound a)
 
 -- the stage of factor f
 abbrev pub at-stage : List ℤ → ℕ → ℕ → Stage

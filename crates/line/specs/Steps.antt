@@ -4,16 +4,11 @@ use mathlib.Core.List.{List}
 use Prim.Native.Nat.{ℕ, _+_}
 use lib.IntN.{ℤ, pos, _+ℤ_, _-ℤ_, _*ℤ_}
 use Rattle.rules.specs.Numbers.{unit, at}
-use Rattle.rules.specs.Stages.{nearest, R, share, ceiling, inside}
+use Rattle.rules.specs.Stages.{nearest, R, share, ceiling}
 use Rattle.factor.specs.declared.Spot.{Spot}
 use Rattle.factor.specs.Spots.{rowOf, along, placeOf}
 use Rattle.factor.specs.Walks.{walk}
 use Rattle.factor.specs.Magnitudes.{whole, sizeAt}
-use Rattle.line.specs.declared.steps.Stepped.{Stepped}
-
--- whether every one of the n numbers is in bound, and the new block; else the old one
-abbrev pub stepped : ℕ → ℕ → List ℤ → List ℤ → Stepped
-stepped most n new old = record { ok = inside most n new; block = cond (inside most n new) new old }
 
 module _ (s : List ℤ) (f : Spot) where
   -- the rounded sum of row m

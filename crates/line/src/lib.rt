@@ -1,27 +1,23 @@
 // The line: forward, inverse and allowance runs of a block of n numbers over one sheet. The calls ask nothing of their callers:
 // whatever is lent is answered, and a refused call leaves the output as it was.
 ghost use mathlib.Core.Path.{_≡_};
-ghost use lib.ListN.{length};
 ghost use Rattle.rules.specs.Numbers.{count};
 ghost use Rattle.rules.specs.Stages.{nearest};
 ghost use Rattle.rules.specs.Answers.{_or-else_, checked};
 ghost use Rattle.rules.specs.Calls.{Gives, line, forwardCall, inverseCall, allowanceCall};
 ghost use Rattle.factor.specs.Answers.{lengthOf, lengthsOf};
-use block::finish;
-use block::load;
+use block::allowance_block;
+use block::forward_block;
+use block::inverse_block;
 use factor::answers::check_length;
 use factor::answers::check_lengths;
-use factor::bounds::is_inside;
 use rules::Answer;
-use runs::allow_all;
-use runs::apply_all;
-use runs::undo_all;
 use sheet::places::count_at;
 
 mod steps; // what a factor does to the elements
 mod stages; // one stage: the factor at a place of the sheet
 mod runs; // all stages of a sheet
-mod block; // the block between the lent slices and the runs
+mod block; // a run of one block over a checked sheet
 
 // 1 to 9, then 10 for the input and for the output.
 fn check_run(s: &[i32], x: usize, y: usize) -> Answer
@@ -53,10 +49,7 @@ pub fn forward(s: &[i32], x: &[i32], y: &mut [i32]) -> Answer
     if a.number != 0 {
         return a;
     }
-    if !is_inside(x) {
-        return Answer::refused(11, 0, 0);
-    }
-    finish(apply_all(s, load(x)), 11, y)
+    forward_block(s, x, y)
 }
 
 // Inverse: x back through the sheet's factors, last to first, into y.
@@ -67,10 +60,7 @@ pub fn inverse(s: &[i32], x: &[i32], y: &mut [i32]) -> Answer
     if a.number != 0 {
         return a;
     }
-    if !is_inside(x) {
-        return Answer::refused(11, 0, 0);
-    }
-    finish(undo_all(s, load(x)), 11, y)
+    inverse_block(s, x, y)
 }
 
 // The allowances of the forward run's coefficients, into y.
@@ -81,5 +71,5 @@ pub fn allowance(s: &[i32], y: &mut [i32]) -> Answer
     if a.number != 0 {
         return a;
     }
-    finish(allow_all(s, [0i32; 16]), 13, y)
+    allowance_block(s, y)
 }

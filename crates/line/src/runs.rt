@@ -1,17 +1,15 @@
 // All factors of a checked sheet, one after another.
 ghost use mathlib.Core.Path.{_≡_};
-ghost use Prim.Native.Nat.{_<_};
-ghost use Rattle.rules.specs.Numbers.{bound, mostAllowance, count};
-ghost use Rattle.rules.specs.Factors.{factors};
-ghost use Rattle.rules.specs.Stages.{nearest, inside, allow, run, runForward, runInverse};
-ghost use Rattle.rules.specs.Shapes.{lineStages};
-ghost use Rattle.rules.specs.Answers.{start};
+ghost use Rattle.rules.specs.Numbers.{bound, count};
+ghost use Rattle.rules.specs.Stages.{nearest, runInverse};
 ghost use Rattle.laws.specs.Accepted.{Accepted};
 ghost use Rattle.factor.specs.Reach.{Numbers};
-ghost use Rattle.line.specs.Runs.{outcome};
-use crate::stages::allow_factor;
-use crate::stages::apply_factor;
+ghost use Rattle.factor.specs.Ways.{limitOf, runBy};
+ghost use Rattle.line.specs.Runs.{outcome, stagesOf};
+use crate::stages::take_factor;
 use crate::stages::undo_factor;
+use factor::Way;
+use factor::start_of;
 use sheet::places::count_at;
 use sheet::places::next_factor;
 
@@ -22,17 +20,17 @@ pub struct Outcome {
     pub block: [i32; 16],
 }
 
-// Forward: first to last.
-pub fn apply_all(sheet: &[i32], x: [i32; 16]) -> Outcome
-    requires { ⌜ Accepted (now sheet) × Numbers bound x ⌝ }
-    ensures { λ r. ⌜ r ≡ outcome (runForward nearest (count (now (sheet .entry)) 0) (lineStages (count (now (sheet .entry)) 0) (factors (now (sheet .entry)))) x) x ⌝ }
+// First to last: forward, or the allowances.
+pub fn take_all(way: Way, sheet: &[i32], x: [i32; 16]) -> Outcome
+    requires { ⌜ Accepted (now sheet) × Numbers (limitOf way) x ⌝ }
+    ensures { λ r. ⌜ r ≡ outcome (runBy way (count (now (sheet .entry)) 0) (stagesOf (now (sheet .entry))) x) x ⌝ }
 {
     let n = count_at(sheet, 0);
     let many = count_at(sheet, 1);
     let mut v = x;
     let mut i = 2;
     for t in 0..many {
-        let s = apply_factor(sheet, n, i, v);
+        let s = take_factor(way, sheet, n, i, v);
         if !s.ok {
             return Outcome {
                 ok: false,
@@ -50,22 +48,10 @@ pub fn apply_all(sheet: &[i32], x: [i32; 16]) -> Outcome
     }
 }
 
-// Where factor f starts: the factors before it are passed one by one, since only a kind tells how long its factor is.
-fn start_of(sheet: &[i32], n: usize, f: usize) -> usize
-    requires { ⌜ Accepted (now sheet) × (n ≡ count (now sheet) 0) × (f < count (now sheet) 1) ⌝ }
-    ensures { λ r. ⌜ r ≡ start (now (sheet .entry)) f ⌝ }
-{
-    let mut i = 2;
-    for k in 0..f {
-        i = next_factor(sheet, n, i);
-    }
-    i
-}
-
 // Inverse: last to first.
 pub fn undo_all(sheet: &[i32], y: [i32; 16]) -> Outcome
     requires { ⌜ Accepted (now sheet) × Numbers bound y ⌝ }
-    ensures { λ r. ⌜ r ≡ outcome (runInverse nearest (count (now (sheet .entry)) 0) (lineStages (count (now (sheet .entry)) 0) (factors (now (sheet .entry)))) y) y ⌝ }
+    ensures { λ r. ⌜ r ≡ outcome (runInverse nearest (count (now (sheet .entry)) 0) (stagesOf (now (sheet .entry))) y) y ⌝ }
 {
     let n = count_at(sheet, 0);
     let many = count_at(sheet, 1);
@@ -81,34 +67,6 @@ pub fn undo_all(sheet: &[i32], y: [i32; 16]) -> Outcome
             };
         }
         v = s.block;
-    }
-    Outcome {
-        ok: true,
-        stage: 0,
-        block: v,
-    }
-}
-
-// Allowances: first to last.
-pub fn allow_all(sheet: &[i32], b: [i32; 16]) -> Outcome
-    requires { ⌜ Accepted (now sheet) × Numbers mostAllowance b ⌝ }
-    ensures { λ r. ⌜ r ≡ outcome (run (inside mostAllowance (count (now (sheet .entry)) 0)) (allow nearest (count (now (sheet .entry)) 0)) (lineStages (count (now (sheet .entry)) 0) (factors (now (sheet .entry)))) b) b ⌝ }
-{
-    let n = count_at(sheet, 0);
-    let many = count_at(sheet, 1);
-    let mut v = b;
-    let mut i = 2;
-    for t in 0..many {
-        let s = allow_factor(sheet, n, i, v);
-        if !s.ok {
-            return Outcome {
-                ok: false,
-                stage: t + 1,
-                block: b,
-            };
-        }
-        v = s.block;
-        i = next_factor(sheet, n, i);
     }
     Outcome {
         ok: true,

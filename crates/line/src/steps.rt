@@ -2,16 +2,15 @@
 ghost use mathlib.Core.Path.{_≡_};
 ghost use mathlib.Core.Bool.{cond};
 ghost use Prim.Native.Nat.{_+_, _<_};
-ghost use lib.IntN.{pos, _+ℤ_};
-ghost use mir.Syntax.{w64};
-ghost use mir.Val.{SFits};
+ghost use lib.IntN.{pos};
 ghost use Rattle.rules.specs.Numbers.{bound, mostAllowance, at, count};
 ghost use Rattle.rules.specs.Stages.{fill, putBack};
 ghost use Rattle.factor.specs.Spots.{along};
 ghost use Rattle.factor.specs.Reach.{Numbers, RowIn};
 ghost use Rattle.factor.specs.Lies.{Lies, Moves};
 ghost use Rattle.factor.specs.Magnitudes.{Entries, whole, sizeAt};
-ghost use Rattle.line.specs.Steps.{stepped, nudge, outAt, backAt, allowAt, walkLine};
+ghost use Rattle.factor.specs.Steps.{Step};
+ghost use Rattle.line.specs.Steps.{nudge, outAt, backAt, allowAt, walkLine};
 use factor::Row;
 use factor::Spot;
 use factor::magnitudes::are_whole;
@@ -20,6 +19,7 @@ use factor::place_of;
 use factor::rounding::applied;
 use factor::rounding::is_within;
 use factor::rounding::raise_line;
+use factor::rounding::raised;
 use factor::rounding::round_line;
 use factor::rounding::undone;
 use factor::row_of;
@@ -53,7 +53,7 @@ fn out_at(sheet: &[i32], f: Spot, m: usize, x: &[i32; 16]) -> i64
 // A factor with weights, applied: every element from the old block.
 pub fn weigh(sheet: &[i32], f: Spot, x: [i32; 16]) -> Stepped
     requires { ⌜ Lies (now sheet) f × Numbers bound x ⌝ }
-    ensures { λ r. ⌜ (r ≡ stepped bound (f .order) (fill (f .order) (outAt (now (sheet .entry)) f x) x) x) × Numbers bound (r .block) ⌝ }
+    ensures { λ r. ⌜ Step bound (f .order) (fill (f .order) (outAt (now (sheet .entry)) f x) x) x (r .ok) (r .block) ⌝ }
 {
     let n = f.order;
     let mut y = x;
@@ -82,7 +82,7 @@ fn back_at(sheet: &[i32], f: Spot, m: usize, x: &[i32; 16]) -> i64
 // A factor with weights, undone in place. It stops at the first number beyond the bound: later sums could leave 64 bits.
 pub fn unweigh(sheet: &[i32], f: Spot, y: [i32; 16]) -> Stepped
     requires { ⌜ Lies (now sheet) f × (f .row < f .order) × Numbers bound y ⌝ }
-    ensures { λ r. ⌜ (r ≡ stepped bound (f .order) (walkLine (now (sheet .entry)) f (f .order) y) y) × Numbers bound (r .block) ⌝ }
+    ensures { λ r. ⌜ Step bound (f .order) (walkLine (now (sheet .entry)) f (f .order) y) y (r .ok) (r .block) ⌝ }
 {
     let n = f.order;
     let mut x = y;
@@ -106,14 +106,6 @@ fn share_of(sheet: &[i32], p: usize, m: usize) -> i64
     ensures { λ r. ⌜ r ≡ cond (whole (now (sheet .entry)) p m) (pos 0) (pos 2048) ⌝ }
 {
     if are_whole(sheet, p, m) { 0 } else { 2048 }
-}
-
-// b + q + share
-fn raised(b: i32, q: i64, share: i64) -> i64
-    requires { ⌜ SFits w64 b × SFits w64 (b +ℤ q) × SFits w64 ((b +ℤ q) +ℤ share) ⌝ }
-    ensures { λ r. ⌜ r ≡ (b +ℤ q) +ℤ share ⌝ }
-{
-    (b as i64) + q + share
 }
 
 // The sum of the magnitudes of row m, each times the allowance of its column.
@@ -146,7 +138,7 @@ fn allow_at(sheet: &[i32], f: Spot, m: usize, b: &[i32; 16]) -> i64
 // The allowances after a factor with weights.
 pub fn allow_weights(sheet: &[i32], f: Spot, b: [i32; 16]) -> Stepped
     requires { ⌜ Lies (now sheet) f × Numbers mostAllowance b ⌝ }
-    ensures { λ r. ⌜ (r ≡ stepped mostAllowance (f .order) (fill (f .order) (allowAt (now (sheet .entry)) f b) b) b) × Numbers mostAllowance (r .block) ⌝ }
+    ensures { λ r. ⌜ Step mostAllowance (f .order) (fill (f .order) (allowAt (now (sheet .entry)) f b) b) b (r .ok) (r .block) ⌝ }
 {
     let n = f.order;
     let mut c = b;

@@ -100,27 +100,6 @@ pub record Bytes (l : List ℕ) : Type 0 where
 pub rest-bytes : {x : ℕ} {l : List ℕ} → Bytes (x ∷ l) → Bytes l
 rest-bytes h = record { each = λ i. h .each (suc i) }
 
-pub no-bytes : Bytes []
-no-bytes = record { each = λ i. omega arith }
-
-pub more-bytes : {x : ℕ} {l : List ℕ} → x < 256 → Bytes l → Bytes (x ∷ l)
-more-bytes {x} {l} h b = record { each = at }
-  where
-    at : (i : ℕ) → getD (x ∷ l) i 0 < 256
-    at zero = h
-    at (suc i) = b .each i
-
--- what is written are bytes
-pub written-bytes : (v : ℤ) → Codable v → Bytes (written v)
-written-bytes v h = split (code v) (h .fits) (decLt (code v) 128) (decLt (code v / 128) 128)
-  where
-    split : (u : ℕ) → u < codes → Dec (u < 128) → Dec (u / 128 < 128) → Bytes (spell 2 u)
-    split u l (yes a) b = rw (spell-1 u a) (more-bytes (omega arith) no-bytes)
-    split u l (no a) (yes b) = rw (spell-2 u (omega arith) b) (more-bytes (omega arith) (more-bytes (omega arith) no-bytes))
-    split u l (no a) (no b) =
-        rw (spell-3 u (omega arith) (omega arith))
-        (more-bytes (omega arith) (more-bytes (omega arith) (more-bytes (omega arith) no-bytes)))
-
 -- ---- and no other bytes are read as the number
 
 -- r is what at most k + 1 groups at the front of l spell

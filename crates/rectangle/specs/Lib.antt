@@ -1,13 +1,7 @@
-pub mod Sums
-pub mod Elements
-pub mod Sizes
-pub mod Went
-pub mod Steps
+pub mod Moves
 pub mod Multiples
 pub mod Weights
 pub mod Order
 pub mod Links
 pub mod Runs
-pub mod Block
-pub mod Ends
 pub mod Promises

@@ -1,5 +1,5 @@
 -- ONE PAIR OF FACTORS, as the code goes through it, is the document's joint stage: applied, undone, and for allowances.
-use mathlib.Core.Bool.{Bool, true, false, cond}
+use mathlib.Core.Bool.{Bool, false, cond}
 use mathlib.Core.List.{List}
 use mathlib.Core.Logic.{_≢_, _⊎_, inl, inr}
 use mathlib.Core.Path.{_≡_, refl, sym, ap, ap₂, _∙_, subst}
@@ -23,16 +23,18 @@ use Rattle.rules.specs.Laws.Rect.{row-below, col-below, row-of, col-of, joint-s
 use Rattle.laws.specs.Accepted.{FactorRead}
 use Rattle.laws.specs.Sound.{factor-sound}
 use Rattle.factor.specs.declared.Spot.{Spot}
+use Rattle.factor.specs.declared.Way.{Way}
+use Rattle.factor.specs.declared.Way.the-variants.{Applied, Allowed}
+use Rattle.factor.specs.Ways.{takenBy}
 use Rattle.factor.specs.Spots.{rowIn, spotBy, spotAt, rowOf, placeOf}
-use Rattle.factor.specs.Reach.{Numbers, numbers-inside}
 use Rattle.factor.specs.Wholes.{row-whole}
 use Rattle.factor.specs.Turns.{places-permute, later-blind}
 use Rattle.factor.specs.Walks.{walk, walk-undoes}
-use Rattle.rectangle.specs.Sums.{inColumn, columnSums, jointSum}
-use Rattle.rectangle.specs.Elements.{signAt, ownOf, sumsAt, nudge, outAt, backAt, outOf, backOf}
-use Rattle.rectangle.specs.Sizes.{sizeSums, sizeSum, wholeRow, allowAt, allowOf}
+use Rattle.joint.specs.Sums.{inColumn, columnSums, jointSum}
+use Rattle.joint.specs.Elements.{signAt, ownOf, sumsAt, nudge, outAt, backAt, outOf, backOf}
+use Rattle.joint.specs.Sizes.{sizeSums, sizeSum, wholeRow, allowAt, allowOf}
 use Rattle.rectangle.specs.Multiples.{joint-whole}
-use Rattle.rectangle.specs.Steps.{stepped, sourceOf}
+use Rattle.rectangle.specs.Moves.{sourceOf}
 use Rattle.rectangle.specs.Weights.{own-there, across-row, size-there, sizes-row-is}
 use Rattle.rectangle.specs.Order.{pair-permutes, pairPlace, earlier}
 
@@ -204,13 +206,10 @@ module _ (c r : List ℤ) (n1 n2 a b : ℕ) where
     unfolding sourceOf jointSource factorAt spotAt spotBy signsAt
     source-there e = rw (← match, q)
 
-    pub permute-is : (x : List ℤ) → fill (n1 * n2) (λ e. at x (sourceOf c (spotAt c n1 a) r (spotAt r n2 b) e)) x ≡ forward nearest (n1 * n2) (jointStage n1 n2 (factorAt c n1 a) (factorAt r n2 b)) x
-    unfolding forward
-    permute-is x = fill-same (n1 * n2) _ _ x (λ e l. rw (source-there e)) ∙ ap (λ (t : Stage). forward nearest (n1 * n2) t x) (sym (moving q))
-
-    pub permute-allows : (x : List ℤ) → fill (n1 * n2) (λ e. at x (sourceOf c (spotAt c n1 a) r (spotAt r n2 b) e)) x ≡ allow nearest (n1 * n2) (jointStage n1 n2 (factorAt c n1 a) (factorAt r n2 b)) x
-    unfolding allow
-    permute-allows x = fill-same (n1 * n2) _ _ x (λ e l. rw (source-there e)) ∙ ap (λ (t : Stage). allow nearest (n1 * n2) t x) (sym (moving q))
+    pub permute-is : (way : Way) (x : List ℤ) → fill (n1 * n2) (λ e. at x (sourceOf c (spotAt c n1 a) r (spotAt r n2 b) e)) x ≡ takenBy way (n1 * n2) (jointStage n1 n2 (factorAt c n1 a) (factorAt r n2 b)) x
+    unfolding takenBy forward allow
+    permute-is Applied x = fill-same (n1 * n2) _ _ x (λ e l. rw (source-there e)) ∙ ap (λ (t : Stage). forward nearest (n1 * n2) t x) (sym (moving q))
+    permute-is Allowed x = fill-same (n1 * n2) _ _ x (λ e l. rw (source-there e)) ∙ ap (λ (t : Stage). allow nearest (n1 * n2) t x) (sym (moving q))
 
     pub unpermute-is : (y : List ℤ) → putBack (n1 * n2) (sourceOf c (spotAt c n1 a) r (spotAt r n2 b)) y ≡ undo nearest (n1 * n2) (jointStage n1 n2 (factorAt c n1 a) (factorAt r n2 b)) y
     unfolding undo
@@ -225,7 +224,3 @@ pub record Paired (c r : List ℤ) (n1 n2 i j : ℕ) : Type 0 where
   pub most2 : n2 ≤ mostOrder
   pub row : FactorRead r n2 j
   pub match : kindOf (count c i) ≡ kindOf (count r j)
-
--- a step that only moves numbers is accepted
-pub moved : {B : ℕ} (n : ℕ) {y new : List ℤ} (x : List ℤ) → y ≡ new → Numbers B new → (record { ok = true; block = y } ≡ stepped B n new x) × Numbers B y
-moved {B} n {y} {new} x e h = rw (e, numbers-inside n h) (refl, h)

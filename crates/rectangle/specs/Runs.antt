@@ -1,38 +1,30 @@
 -- ALL PAIRS OF FACTORS: the stages one by one, forward and back, as the loops of the code meet them.
-use mathlib.Core.Bool.{Bool, true, false, cond}
 use mathlib.Core.List.{List, [], _∷_, _++_, reverse, reverse-append}
 use mathlib.Core.Path.{_≡_, refl, sym, ap, _∙_}
-use Prim.Native.Nat.{ℕ, suc, _+_, _-_, _*_, _<_}
-use native.Mathlib.Nat.{sub-self, sub-zero}
+use Prim.Native.Nat.{ℕ, suc, _+_, _-_, _*_, _≤_, _<_}
+use native.Mathlib.Nat.{mul-le-mul, sub-self, sub-zero}
 use native.Mathlib.Omega.{arith}
 use lib.IntN.{ℤ}
 use Rattle.rules.specs.Numbers.{count}
 use Rattle.rules.specs.Sheets.{kindOf}
 use Rattle.rules.specs.Factors.{factorAt, factorsFrom, factors}
-use Rattle.rules.specs.Stages.{Stage, Ran, done, beyond, inside}
+use Rattle.rules.specs.Stages.{Stage, Ran}
 use Rattle.rules.specs.Shapes.{jointStage, jointStages}
 use Rattle.rules.specs.Answers.{further, start, matching, pairChecked}
+use Rattle.rules.specs.Calls.{ranMemory}
 use Rattle.rules.specs.Laws.Cuts.{joints-append}
+use Rattle.rules.specs.Laws.Good.{AllGood}
+use Rattle.rules.specs.Laws.Kinds.{joints-good}
 use Rattle.laws.specs.Accepted.{Accepted, accepted-order, further-next, pair-read}
-use Rattle.laws.specs.Sound.{factors-split, factors-length, counts-agree, kinds-agree}
+use Rattle.laws.specs.Sound.{factors-split, factors-length, counts-agree, kinds-agree, sheets-match}
+use Rattle.factor.specs.Blocks.{ranOk, ranStage}
 use Rattle.factor.specs.Loops.{Listed}
-use Rattle.rectangle.specs.declared.steps.Stepped.{Stepped}
 use Rattle.rectangle.specs.declared.runs.Outcome.{Outcome}
-use Rattle.rectangle.specs.Steps.{stepped}
 use Rattle.rectangle.specs.Links.{Paired}
 
 -- what a run gives, as the code holds it; a refused run holds the block that it was given
-unfoldable pub outcome : Ran → List ℤ → Outcome
-outcome (done v) x = record { ok = true; stage = 0; block = v }
-outcome (beyond s) x = record { ok = false; stage = s; block = x }
-
--- ---- what a step told
-pub step-no : (B n : ℕ) (new old : List ℤ) {r : Stepped} → r ≡ stepped B n new old → r .ok ≡ false → inside B n new ≡ false
-step-no B n new old e h = sym (ap (λ (r : Stepped). r .ok) e) ∙ h
-
-pub step-yes : (B n : ℕ) (new old : List ℤ) {r : Stepped} → r ≡ stepped B n new old → r .ok ≡ true → r .block ≡ new
-step-yes B n new old e h =
-    ap (λ (r : Stepped). r .block) e ∙ ap (λ (b : Bool). cond b new old) (sym (ap (λ (r : Stepped). r .ok) e) ∙ h)
+abbrev pub outcome : Ran → List ℤ → Outcome
+outcome ran x = record { ok = ranOk ran; stage = ranStage ran; block = ranMemory ran x }
 
 -- ---- two checked sheets that match
 pub record Matched (c r : List ℤ) : Type 0 where
@@ -59,8 +51,16 @@ paired {c} {r} m f l = record {
 abbrev pub sizeOf : List ℤ → List ℤ → ℕ
 sizeOf c r = count c 0 * count r 0
 
+-- the stages of two sheets
 abbrev pub stagesOf : List ℤ → List ℤ → List Stage
 stagesOf c r = jointStages (count c 0) (count r 0) (factors c) (factors r)
+
+module _ {c r : List ℤ} (m : Matched c r) where
+  pub stages-good : AllGood (sizeOf c r) (stagesOf c r)
+  stages-good = joints-good (sheets-match (m .column) (m .row) (m .match))
+
+  pub size-most : sizeOf c r ≤ 256
+  size-most = mul-le-mul (accepted-order (m .column) .most) (accepted-order (m .row) .most)
 
 module _ (c r : List ℤ) where
   abbrev n1 : ℕ

@@ -27,9 +27,9 @@ use Rattle.factor.specs.Rows.{row-sum}
 use Rattle.factor.specs.Reach.{RowIn}
 use Rattle.factor.specs.Lies.{rows-lie, row-wide}
 use Rattle.factor.specs.Magnitudes.{sizeAt, sizes-row, sizes-along}
-use Rattle.rectangle.specs.Sums.{entriesSum, across}
-use Rattle.rectangle.specs.Elements.{signAt, ownOf}
-use Rattle.rectangle.specs.Sizes.{sizesOf, sideBySide}
+use Rattle.joint.specs.Sums.{entriesSum, across}
+use Rattle.joint.specs.Elements.{signAt, ownOf}
+use Rattle.joint.specs.Sizes.{sizesOf, sideBySide}
 
 entriesBy : (ℕ → ℤ) → Row → ℕ → (ℕ → ℤ) → ℤ
 entriesBy u r m f = sum (r .left) (λ j. u (r .at + j) *ℤ f j) +ℤ sum (r .right) (λ j. u (r .at + r .left + j) *ℤ f (suc m + j))

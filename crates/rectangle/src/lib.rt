@@ -6,27 +6,20 @@ ghost use Rattle.rules.specs.Answers.{_or-else_, pairChecked};
 ghost use Rattle.rules.specs.Calls.{Gives, joint, forwardCall, inverseCall, allowanceCall};
 ghost use Rattle.factor.specs.Answers.{lengthOf, lengthsOf};
 ghost use Rattle.rectangle.specs.Runs.{sizeOf};
-use block::finish;
-use block::load;
+use block::allowance_block;
+use block::forward_block;
+use block::inverse_block;
 use factor::answers::check_length;
 use factor::answers::check_lengths;
-use factor::bounds::is_inside;
 use rules::Answer;
-use runs::allow_all;
-use runs::apply_all;
-use runs::undo_all;
 use sheet::check_pair;
 use sheet::places::count_at;
 
-mod sums; // the sum of an element in two steps: over the columns, then over a row of such sums
-mod elements; // one element applied and undone
-mod allowances; // one element's allowance
-mod rows; // one row of elements
 mod steps; // a pair of factors with weights
 mod moves; // a pair of permutations
 mod stages; // one stage: the factors at two places of the sheets
 mod runs; // all stages of two sheets
-mod block; // the block between the lent slices and the runs
+mod block; // a run of one block over two checked sheets
 
 // 1 to 9 and 12, then 10 for the input and for the output.
 fn check_run(col: &[i32], row: &[i32], x: usize, y: usize) -> Answer
@@ -58,10 +51,7 @@ pub fn forward(col: &[i32], row: &[i32], x: &[i32], y: &mut [i32]) -> Answer
     if a.number != 0 {
         return a;
     }
-    if !is_inside(x) {
-        return Answer::refused(11, 0, 0);
-    }
-    finish(apply_all(col, row, load(x)), 11, y)
+    forward_block(col, row, x, y)
 }
 
 // Inverse: x back through the pairs of factors, last to first, into y.
@@ -72,10 +62,7 @@ pub fn inverse(col: &[i32], row: &[i32], x: &[i32], y: &mut [i32]) -> Answer
     if a.number != 0 {
         return a;
     }
-    if !is_inside(x) {
-        return Answer::refused(11, 0, 0);
-    }
-    finish(undo_all(col, row, load(x)), 11, y)
+    inverse_block(col, row, x, y)
 }
 
 // The allowances of the forward run's coefficients, into y.
@@ -86,5 +73,5 @@ pub fn allowance(col: &[i32], row: &[i32], y: &mut [i32]) -> Answer
     if a.number != 0 {
         return a;
     }
-    finish(allow_all(col, row, [0i32; 256]), 13, y)
+    allowance_block(col, row, y)
 }

@@ -4,7 +4,7 @@ ghost use Prim.Native.Nat.{_*_, _<_};
 ghost use Rattle.rules.specs.Numbers.{at};
 ghost use Rattle.rules.specs.Stages.{fill, putBack};
 ghost use Rattle.factor.specs.Lies.{Moves};
-ghost use Rattle.rectangle.specs.Steps.{sourceOf};
+ghost use Rattle.rectangle.specs.Moves.{sourceOf};
 use factor::Spot;
 use sheet::places::count_at;
 

@@ -1,15 +1,14 @@
 // All pairs of factors of two checked sheets that match, one after another.
 ghost use mathlib.Core.Path.{_≡_};
-ghost use Prim.Native.Nat.{_<_};
-ghost use Rattle.rules.specs.Numbers.{bound, mostAllowance, count};
-ghost use Rattle.rules.specs.Stages.{nearest, inside, allow, run, runForward, runInverse};
-ghost use Rattle.rules.specs.Answers.{start};
-ghost use Rattle.laws.specs.Accepted.{Accepted};
+ghost use Rattle.rules.specs.Numbers.{bound};
+ghost use Rattle.rules.specs.Stages.{nearest, runInverse};
 ghost use Rattle.factor.specs.Reach.{Numbers};
+ghost use Rattle.factor.specs.Ways.{limitOf, runBy};
 ghost use Rattle.rectangle.specs.Runs.{outcome, Matched, sizeOf, stagesOf};
-use crate::stages::allow_pair;
-use crate::stages::apply_pair;
+use crate::stages::take_pair;
 use crate::stages::undo_pair;
+use factor::Way;
+use factor::start_of;
 use sheet::places::count_at;
 use sheet::places::next_factor;
 
@@ -20,10 +19,10 @@ pub struct Outcome {
     pub block: [i32; 256],
 }
 
-// Forward: first to last.
-pub fn apply_all(col: &[i32], row: &[i32], x: [i32; 256]) -> Outcome
-    requires { ⌜ Matched (now col) (now row) × Numbers bound x ⌝ }
-    ensures { λ r. ⌜ r ≡ outcome (runForward nearest (sizeOf (now (col .entry)) (now (row .entry))) (stagesOf (now (col .entry)) (now (row .entry))) x) x ⌝ }
+// First to last: forward, or the allowances.
+pub fn take_all(way: Way, col: &[i32], row: &[i32], x: [i32; 256]) -> Outcome
+    requires { ⌜ Matched (now col) (now row) × Numbers (limitOf way) x ⌝ }
+    ensures { λ r. ⌜ r ≡ outcome (runBy way (sizeOf (now (col .entry)) (now (row .entry))) (stagesOf (now (col .entry)) (now (row .entry))) x) x ⌝ }
 {
     let n1 = count_at(col, 0);
     let n2 = count_at(row, 0);
@@ -32,7 +31,7 @@ pub fn apply_all(col: &[i32], row: &[i32], x: [i32; 256]) -> Outcome
     let mut i = 2;
     let mut j = 2;
     for t in 0..many {
-        let s = apply_pair(col, row, n1, n2, i, j, v);
+        let s = take_pair(way, col, row, n1, n2, i, j, v);
         if !s.ok {
             return Outcome {
                 ok: false,
@@ -49,18 +48,6 @@ pub fn apply_all(col: &[i32], row: &[i32], x: [i32; 256]) -> Outcome
         stage: 0,
         block: v,
     }
-}
-
-// Where factor f starts: the factors before it are passed one by one, since only a kind tells how long its factor is.
-fn start_of(sheet: &[i32], n: usize, f: usize) -> usize
-    requires { ⌜ Accepted (now sheet) × (n ≡ count (now sheet) 0) × (f < count (now sheet) 1) ⌝ }
-    ensures { λ r. ⌜ r ≡ start (now (sheet .entry)) f ⌝ }
-{
-    let mut i = 2;
-    for k in 0..f {
-        i = next_factor(sheet, n, i);
-    }
-    i
 }
 
 // Inverse: last to first.
@@ -85,37 +72,6 @@ pub fn undo_all(col: &[i32], row: &[i32], y: [i32; 256]) -> Outcome
             };
         }
         v = s.block;
-    }
-    Outcome {
-        ok: true,
-        stage: 0,
-        block: v,
-    }
-}
-
-// Allowances: first to last.
-pub fn allow_all(col: &[i32], row: &[i32], x: [i32; 256]) -> Outcome
-    requires { ⌜ Matched (now col) (now row) × Numbers mostAllowance x ⌝ }
-    ensures { λ r. ⌜ r ≡ outcome (run (inside mostAllowance (sizeOf (now (col .entry)) (now (row .entry)))) (allow nearest (sizeOf (now (col .entry)) (now (row .entry)))) (stagesOf (now (col .entry)) (now (row .entry))) x) x ⌝ }
-{
-    let n1 = count_at(col, 0);
-    let n2 = count_at(row, 0);
-    let many = count_at(col, 1);
-    let mut v = x;
-    let mut i = 2;
-    let mut j = 2;
-    for t in 0..many {
-        let s = allow_pair(col, row, n1, n2, i, j, v);
-        if !s.ok {
-            return Outcome {
-                ok: false,
-                stage: t + 1,
-                block: x,
-            };
-        }
-        v = s.block;
-        i = next_factor(col, n1, i);
-        j = next_factor(row, n2, j);
     }
     Outcome {
         ok: true,

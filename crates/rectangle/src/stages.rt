@@ -1,12 +1,12 @@
 // One stage of a rectangle: the factors at place i of a checked column sheet and at place j of a checked row sheet.
-ghost use mathlib.Core.Path.{_≡_};
 ghost use Prim.Native.Nat.{_*_};
-ghost use Rattle.rules.specs.Numbers.{bound, mostAllowance};
+ghost use Rattle.rules.specs.Numbers.{bound};
 ghost use Rattle.rules.specs.Factors.{factorAt};
-ghost use Rattle.rules.specs.Stages.{nearest, forward, undo, allow};
+ghost use Rattle.rules.specs.Stages.{nearest, undo};
 ghost use Rattle.rules.specs.Shapes.{jointStage};
 ghost use Rattle.factor.specs.Reach.{Numbers};
-ghost use Rattle.rectangle.specs.Steps.{stepped};
+ghost use Rattle.factor.specs.Ways.{limitOf, takenBy};
+ghost use Rattle.factor.specs.Steps.{Step};
 ghost use Rattle.rectangle.specs.Links.{Paired};
 use crate::moves::permute;
 use crate::moves::unpermute;
@@ -14,11 +14,13 @@ use crate::steps::Stepped;
 use crate::steps::allow_weights;
 use crate::steps::unweigh;
 use crate::steps::weigh;
+use factor::Way;
 use factor::is_move;
 use factor::spot_at;
 
-// Applied.
-pub fn apply_pair(
+// Applied, or on allowances.
+pub fn take_pair(
+    way: Way,
     col: &[i32],
     row: &[i32],
     n1: usize,
@@ -27,8 +29,8 @@ pub fn apply_pair(
     j: usize,
     x: [i32; 256],
 ) -> Stepped
-    requires { ⌜ Paired (now col) (now row) n1 n2 i j × Numbers bound x ⌝ }
-    ensures { λ s. ⌜ (s ≡ stepped bound (n1 * n2) (forward nearest (n1 * n2) (jointStage n1 n2 (factorAt (now (col .entry)) n1 i) (factorAt (now (row .entry)) n2 j)) x) x) × Numbers bound (s .block) ⌝ }
+    requires { ⌜ Paired (now col) (now row) n1 n2 i j × Numbers (limitOf way) x ⌝ }
+    ensures { λ s. ⌜ Step (limitOf way) (n1 * n2) (takenBy way (n1 * n2) (jointStage n1 n2 (factorAt (now (col .entry)) n1 i) (factorAt (now (row .entry)) n2 j)) x) x (s .ok) (s .block) ⌝ }
 {
     let fa = spot_at(col, n1, i);
     let fb = spot_at(row, n2, j);
@@ -36,7 +38,10 @@ pub fn apply_pair(
         let b = permute(col, fa, row, fb, x);
         return Stepped { ok: true, block: b };
     }
-    weigh(col, fa, row, fb, x)
+    match way {
+        Way::Applied => return weigh(col, fa, row, fb, x),
+        Way::Allowed => return allow_weights(col, fa, row, fb, x),
+    }
 }
 
 // Undone.
@@ -50,7 +55,7 @@ pub fn undo_pair(
     y: [i32; 256],
 ) -> Stepped
     requires { ⌜ Paired (now col) (now row) n1 n2 i j × Numbers bound y ⌝ }
-    ensures { λ s. ⌜ (s ≡ stepped bound (n1 * n2) (undo nearest (n1 * n2) (jointStage n1 n2 (factorAt (now (col .entry)) n1 i) (factorAt (now (row .entry)) n2 j)) y) y) × Numbers bound (s .block) ⌝ }
+    ensures { λ s. ⌜ Step bound (n1 * n2) (undo nearest (n1 * n2) (jointStage n1 n2 (factorAt (now (col .entry)) n1 i) (factorAt (now (row .entry)) n2 j)) y) y (s .ok) (s .block) ⌝ }
 {
     let fa = spot_at(col, n1, i);
     let fb = spot_at(row, n2, j);
@@ -59,26 +64,4 @@ pub fn undo_pair(
         return Stepped { ok: true, block: b };
     }
     unweigh(col, fa, row, fb, y)
-}
-
-// On allowances.
-pub fn allow_pair(
-    col: &[i32],
-    row: &[i32],
-    n1: usize,
-    n2: usize,
-    i: usize,
-    j: usize,
-    b: [i32; 256],
-) -> Stepped
-    requires { ⌜ Paired (now col) (now row) n1 n2 i j × Numbers mostAllowance b ⌝ }
-    ensures { λ s. ⌜ (s ≡ stepped mostAllowance (n1 * n2) (allow nearest (n1 * n2) (jointStage n1 n2 (factorAt (now (col .entry)) n1 i) (factorAt (now (row .entry)) n2 j)) b) b) × Numbers mostAllowance (s .block) ⌝ }
-{
-    let fa = spot_at(col, n1, i);
-    let fb = spot_at(row, n2, j);
-    if is_move(fa) {
-        let a = permute(col, fa, row, fb, b);
-        return Stepped { ok: true, block: a };
-    }
-    allow_weights(col, fa, row, fb, b)
 }

@@ -1,20 +1,19 @@
 // A pair of factors with weights: applied and undone, row by row. The block goes in and comes back by value.
-ghost use mathlib.Core.Path.{_≡_};
 ghost use Prim.Native.Nat.{_*_, _<_};
 ghost use Rattle.rules.specs.Numbers.{bound, mostAllowance};
 ghost use Rattle.rules.specs.Stages.{fill};
 ghost use Rattle.factor.specs.Reach.{Numbers};
 ghost use Rattle.factor.specs.Lies.{Lies};
+ghost use Rattle.factor.specs.Steps.{Step};
 ghost use Rattle.factor.specs.Walks.{walk};
-ghost use Rattle.rectangle.specs.Elements.{outOf, backOf};
-ghost use Rattle.rectangle.specs.Sizes.{allowOf};
+ghost use Rattle.joint.specs.Elements.{outOf, backOf};
+ghost use Rattle.joint.specs.Sizes.{allowOf};
 ghost use Rattle.rectangle.specs.Order.{pairPlace};
-ghost use Rattle.rectangle.specs.Steps.{stepped};
-use crate::rows::allow_row;
-use crate::rows::unweigh_row;
-use crate::rows::weigh_row;
 use factor::Spot;
 use factor::place_of;
+use joint::rows::allow_row;
+use joint::rows::unweigh_row;
+use joint::rows::weigh_row;
 
 // Whether every number is in bound, and the new block; else the block as it was.
 pub struct Stepped {
@@ -25,7 +24,7 @@ pub struct Stepped {
 // Applied: every element from the old block.
 pub fn weigh(col: &[i32], fa: Spot, row: &[i32], fb: Spot, x: [i32; 256]) -> Stepped
     requires { ⌜ Lies (now col) fa × Lies (now row) fb × Numbers bound x ⌝ }
-    ensures { λ r. ⌜ (r ≡ stepped bound (fa .order * fb .order) (fill (fa .order * fb .order) (outOf (now (col .entry)) fa (now (row .entry)) fb x) x) x) × Numbers bound (r .block) ⌝ }
+    ensures { λ r. ⌜ Step bound (fa .order * fb .order) (fill (fa .order * fb .order) (outOf (now (col .entry)) fa (now (row .entry)) fb x) x) x (r .ok) (r .block) ⌝ }
 {
     let n = fa.order;
     let mut y = x;
@@ -44,7 +43,7 @@ pub fn weigh(col: &[i32], fa: Spot, row: &[i32], fb: Spot, x: [i32; 256]) -> Ste
 // leave 64 bits.
 pub fn unweigh(col: &[i32], fa: Spot, row: &[i32], fb: Spot, y: [i32; 256]) -> Stepped
     requires { ⌜ Lies (now col) fa × Lies (now row) fb × (fa .row < fa .order) × (fb .row < fb .order) × Numbers bound y ⌝ }
-    ensures { λ r. ⌜ (r ≡ stepped bound (fa .order * fb .order) (walk (backOf (now (col .entry)) fa (now (row .entry)) fb) (pairPlace fa fb) (fa .order * fb .order) y) y) × Numbers bound (r .block) ⌝ }
+    ensures { λ r. ⌜ Step bound (fa .order * fb .order) (walk (backOf (now (col .entry)) fa (now (row .entry)) fb) (pairPlace fa fb) (fa .order * fb .order) y) y (r .ok) (r .block) ⌝ }
 {
     let n = fa.order;
     let mut x = y;
@@ -63,7 +62,7 @@ pub fn unweigh(col: &[i32], fa: Spot, row: &[i32], fb: Spot, y: [i32; 256]) -> S
 // The allowances after it.
 pub fn allow_weights(col: &[i32], fa: Spot, row: &[i32], fb: Spot, x: [i32; 256]) -> Stepped
     requires { ⌜ Lies (now col) fa × Lies (now row) fb × Numbers mostAllowance x ⌝ }
-    ensures { λ r. ⌜ (r ≡ stepped mostAllowance (fa .order * fb .order) (fill (fa .order * fb .order) (allowOf (now (col .entry)) fa (now (row .entry)) fb x) x) x) × Numbers mostAllowance (r .block) ⌝ }
+    ensures { λ r. ⌜ Step mostAllowance (fa .order * fb .order) (fill (fa .order * fb .order) (allowOf (now (col .entry)) fa (now (row .entry)) fb x) x) x (r .ok) (r .block) ⌝ }
 {
     let n = fa.order;
     let mut y = x;

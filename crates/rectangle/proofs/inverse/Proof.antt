@@ -1,122 +1,46 @@
--- The checks in turn (`run-stops`, `run-goes`), stage 0, and the run in its array (`inverse-ends`).
-use borrow.Author.Tests.{not-true, not-false}
-use mathlib.Core.Path.{_≡_, refl, sym, _∙_}
-use native.Mathlib.Omega.{arith}
+-- The checks in turn (`run-stops`, `run-goes`), then the run of the block.
+use mathlib.Core.Path.{_≡_}
 use lib.ListN.{length}
-use Rattle.rules.specs.Numbers.{bound}
-use Rattle.rules.specs.Stages.{inside}
-use Rattle.rules.specs.Answers.{_or-else_, pairChecked}
-use Rattle.rules.specs.Calls.{joint, reply, ranAnswer, ranMemory, inverseCall}
+use Rattle.rules.specs.Answers.{_or-else_}
+use Rattle.rules.specs.Calls.{joint, inverseCall}
 use Rattle.factor.specs.Answers.{lengthsOf, run-stops, run-goes, run-fine}
-use Rattle.rectangle.specs.Runs.{matched, sizeOf}
-use Rattle.rectangle.specs.Ends.{framed-numbers, size-most, inverse-ends, inverse-out}
+use Rattle.rectangle.specs.Runs.{matched}
 use borrow.Author.Needs.{needs}
 use Rattle.rectangle.proofs.inverse.Statement.{statement}
 use Rattle.rectangle.proofs.inverse.Tie as tie
-use Rattle.rectangle.proofs.inverse.Reads as own-reads
-use Rattle.rectangle.proofs.inverse.Lts as lts
-use Rattle.factor.proofs.bounds.is_inside.Reads as is-inside-reads
-use Rattle.rectangle.proofs.block.finish.Reads as finish-reads
-use Rattle.rectangle.proofs.block.load.Reads as load-reads
-use Rattle.rectangle.proofs.check_run.Reads as check-run-reads
-use Rattle.rectangle.proofs.runs.undo_all.Reads as undo-all-reads
-use Rattle.rules.proofs.Answer.refused.Reads as refused-reads
 
--- src/lib.rt:66:9
 -- what the checks told: the sheets, the lengths
 checks : (c : tie.After-check-run) → c .check-run .result ≡ joint (c .before .args .col .now) (c .before .args .row .now) .sheets or-else lengthsOf (joint (c .before .args .col .now) (c .before .args .row .now) .size) (length (c .before .args .x .now)) (length (c .before .args .y .now))
 unfolding joint
 checks c = c .check-run .ensures
 
-fine :
-    (c : tie.Else1) →
-    let p = c .before .before .before .args .col .now in
-    let r = c .before .before .before .args .row .now in
-    (pairChecked p r .number ≡ 0) × (length (c .before .before .before .args .x .now) ≡ sizeOf p r) × (length (c .before .before .before .args .y .now) ≡ sizeOf p r)
-unfolding joint
-fine c = let s = c .before .before .before in run-fine (joint (s .args .col .now) (s .args .row .now)) (s .args .x .now) (s .args .y .now) (checks (c .before .before)) (c .if1 .left)
-
--- stage 0
-tested :
-    (c : tie.After-is-inside) →
-    c .is-inside .result ≡ inside bound (sizeOf (c .before .before .before .before .args .col .now) (c .before .before .before .before .args .row .now)) (c .before .before .before .before .args .x .now)
-tested c = c .is-inside .ensures ∙ rw (fine (c .before) .1)
-
 check-run-requires : tie.Need-check-run-requires
 check-run-requires c κs = search needs
 
--- src/lib.rt:68:9
 returns : tie.Need-returns
 unfolding inverseCall
 returns c =
     let s = c .before .before .before in
     run-stops (joint (s .args .col .now) (s .args .row .now)) (s .args .x .now) (s .args .y .now) (checks (c .before .before)) _ (c .if1 .taken)
 
--- src/lib.rt:70:9
-is-inside-requires : tie.Need-is-inside-requires
-is-inside-requires c κs = search needs
-
--- src/lib.rt:71:9
-refused-requires : tie.Need-refused-requires
-refused-requires c κs = search needs
-
--- src/lib.rt:71:9
-returns-2 : tie.Need-returns-2
-unfolding inverseCall joint reply ranAnswer ranMemory
-returns-2 c =
-    let e = c .before .before .before in
+inverse-block-requires : tie.Need-inverse-block-requires
+unfolding joint
+inverse-block-requires c κs =
+    let e = c .before in
     let s = e .before .before .before in
-    let o = inverse-out (s .args .x .now) (sizeOf (s .args .col .now) (s .args .row .now)) (joint (s .args .col .now) (s .args .row .now) .stages) (sym (tested (c .before .before)) ∙ not-true _ (c .before .if2 .taken)) in
-    rw (run-goes (joint (s .args .col .now) (s .args .row .now)) (s .args .x .now) (s .args .y .now) (checks (e .before .before)) _ (e .if1 .left), o) (c .refused .ensures, refl)
+    let h = run-fine (joint (s .args .col .now) (s .args .row .now)) (s .args .x .now) (s .args .y .now) (checks (e .before .before)) (e .if1 .left) in
+    (matched _ _ (h .0), h .1, h .2)
 
--- src/lib.rt:73:24
-load-requires : tie.Need-load-requires
-load-requires c κs = let e = c .before .before in let h = fine e in let m = size-most _ _ (h .0) in omega arith
-
--- src/lib.rt:73:12
-undo-all-requires : tie.Need-undo-all-requires
-undo-all-requires c κs =
-    let e = c .before .before .before in
-    let s = e .before .before .before in
-    let h = fine e in (
-      matched _ _ (h .0),
-      rw (c .load .ensures) (framed-numbers bound (s .args .x .now) (sym (c .before .before .is-inside .ensures) ∙ not-false _ (c .before .if2 .left))),
-    )
-
--- src/lib.rt:73:5
-finish-requires : tie.Need-finish-requires
-finish-requires c κs = let h = fine (c .before .before .before .before .before) in let m = size-most _ _ (h .0) in omega arith
-
--- src/lib.rt:63:1
 same-length : tie.Need-same-length
 same-length c = search needs
 
--- src/lib.rt:63:1
-returns-3 : tie.Need-returns-3
+returns-2 : tie.Need-returns-2
 unfolding inverseCall joint
-returns-3 c =
-    let f = c .before in
-    let a = f .before .before in
-    let e = a .before .before .before .before in
+returns-2 c =
+    let e = c .before .before .before in
     let s = e .before .before .before in
-    let h = fine e in
-    rw (
-      run-goes (joint (s .args .col .now) (s .args .row .now)) (s .args .x .now) (s .args .y .now) (checks (e .before .before)) _ (e .if1 .left),
-      ← (inverse-ends (s .args .col .now) (s .args .row .now) (h .0) (s .args .x .now) (s .args .y .now) (h .1) (h .2)),
-    )
-    (rw (a .undo-all .ensures, a .before .load .ensures) at (f .finish .ensures))
+    rw (run-goes (joint (s .args .col .now) (s .args .row .now)) (s .args .x .now) (s .args .y .now) (checks (e .before .before)) _ (e .if1 .left)) (c .before .inverse-block .ensures)
 
 pub inverse-spec : {M : Type 1} → statement M
 inverse-spec =
-    tie.close
-    (tie.spec
-    check-run-requires
-    returns
-    is-inside-requires
-    refused-requires
-    returns-2
-    load-requires
-    undo-all-requires
-    finish-requires
-    same-length
-    returns-3)
+    tie.close (tie.spec check-run-requires returns inverse-block-requires same-length returns-2)

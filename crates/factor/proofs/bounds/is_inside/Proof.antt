@@ -12,7 +12,7 @@ use Rattle.whole.specs.Diff.{Within}
 use Rattle.whole.specs.Machine.{back}
 use Rattle.rules.specs.Numbers.{bound, at}
 use Rattle.rules.specs.Laws.Lists.{inside-yes}
-use Rattle.factor.specs.Reach.{beyond-there, within-test}
+use Rattle.factor.specs.Reach.{beyond-there, test-yes}
 use Rattle.factor.proofs.bounds.is_inside.Statement.{statement}
 use Rattle.factor.proofs.bounds.is_inside.Tie as tie
 
@@ -58,7 +58,7 @@ loop-less c = omega arith
 loop-again : tie.Need-loop-again Inv-loop μ-loop
 loop-again c =
     let l = c .before .before .before .before .before .loop in
-    (omega arith, below-more _ _ (l .inv .1) (within-test bound _ (sym (told (c .before)) ∙ not-false _ (c .if1 .left))))
+    (omega arith, below-more _ _ (l .inv .1) (test-yes bound refl (told (c .before)) (not-false _ (c .if1 .left))))
 
 returns-2 : tie.Need-returns-2 Inv-loop μ-loop
 returns-2 c =

@@ -1,69 +1,18 @@
--- The first k numbers are copied, 0 stands behind them.
-use mathlib.Core.Path.{_≡_, refl, _∙_}
-use Prim.Native.Nat.{_-_, _≤_}
-use native.Mathlib.Numerals.{add-one}
-use native.Mathlib.Omega.{arith}
-use lib.IntN.{pos}
-use lib.ListN.{length, replicate}
-use mir.Syntax.{w32}
-use Rattle.whole.specs.Machine.{back}
-use Rattle.rules.specs.Numbers.{at}
-use Rattle.rules.specs.Stages.{fill}
-use Rattle.line.specs.Block.{load-is}
+-- The numbers are copied over the front of an array of 0 (`load-is`).
+use mathlib.Core.Path.{_∙_}
+use Rattle.factor.specs.Blocks.{load-is}
+use borrow.Author.Needs.{needs}
 use Rattle.line.proofs.block.load.Statement.{statement}
 use Rattle.line.proofs.block.load.Tie as tie
 
-abbrev Inv-loop : tie.InvT-loop
-Inv-loop x n b₀ k₀ b k = (k ≤ n) × (b ≡ fill k (at x) (replicate 16 (pos 0)))
+slice-aggregate-copy-front : tie.Need-slice-aggregate-copy-front
+slice-aggregate-copy-front c = search needs
 
-abbrev μ-loop : tie.MeasureT-loop
-μ-loop x n b₀ k₀ b k = n - k
+copy-front-requires : tie.Need-copy-front-requires
+copy-front-requires c κs = search needs
 
-loop-holds : tie.Need-loop-holds Inv-loop μ-loop
-unfolding fill
-loop-holds c = (omega arith, refl)
-
-mul-b : tie.Need-mul-b Inv-loop μ-loop
-mul-b c = omega arith
-
-shared-slice-copy-out-b : tie.Need-shared-slice-copy-out-b Inv-loop μ-loop
-shared-slice-copy-out-b c = omega arith
-
-mul-b-2 : tie.Need-mul-b-2 Inv-loop μ-loop
-mul-b-2 c = omega arith
-
-array-set-from-b : tie.Need-array-set-from-b Inv-loop μ-loop
-array-set-from-b c = let h = c .before .before .before .pre in omega arith
-
-add-k : tie.Need-add-k Inv-loop μ-loop
-add-k c = omega arith
-
-loop-less : tie.Need-loop-less Inv-loop μ-loop
-loop-less c = omega arith
-
-loop-again : tie.Need-loop-again Inv-loop μ-loop
-unfolding fill
-loop-again c = (omega arith, rw (add-one, back w32 _ (c .b .given), c .before .before .loop .inv .1))
-
-returns : tie.Need-returns Inv-loop μ-loop
-returns c =
-    let s = c .before .before in
-    let l = c .before .loop in
-    let e : l .k ≡ length (s .args .x .now) = omega arith in
-    l .inv .1 ∙ rw e (load-is (s .args .x .now) (s .pre))
+returns : tie.Need-returns
+returns c = c .before .copy-front .ensures ∙ load-is 16 _ (c .before .before .before .pre)
 
 pub load-spec : {M : Type 1} → statement M
-load-spec =
-    tie.close
-    (tie.spec
-    Inv-loop
-    μ-loop
-    loop-holds
-    mul-b
-    shared-slice-copy-out-b
-    mul-b-2
-    array-set-from-b
-    add-k
-    loop-less
-    loop-again
-    returns)
+load-spec = tie.close (tie.spec slice-aggregate-copy-front copy-front-requires returns)

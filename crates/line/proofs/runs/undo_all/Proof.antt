@@ -1,21 +1,22 @@
 -- After t factors are undone the run is that of the factors before them, the last of them first (`turn-on`), and the block is in bound.
 use borrow.Author.Tests.{not-true, not-false}
 use mathlib.Core.List.{List}
-use mathlib.Core.Path.{_≡_, _∙_}
+use mathlib.Core.Path.{_≡_}
 use Prim.Native.Nat.{suc, _-_, _≤_}
 use native.Mathlib.Nat.{sub-zero}
 use native.Mathlib.Omega.{arith}
 use lib.IntN.{ℤ}
 use Rattle.rules.specs.Numbers.{bound, mostOrder, count}
 use Rattle.rules.specs.Factors.{factors}
-use Rattle.rules.specs.Stages.{Ran, nearest, undo, inside, later, run, runInverse}
+use Rattle.rules.specs.Stages.{Ran, nearest, undo, runInverse}
 use Rattle.rules.specs.Shapes.{lineStages}
+use Rattle.rules.specs.Calls.{ranMemory}
 use Rattle.rules.specs.Laws.Runs.{loop-start}
 use Rattle.laws.specs.Accepted.{FactorRead, accepted-order, order-counts, count-counts}
-use Rattle.factor.specs.Reach.{Numbers, numbers-inside}
-use Rattle.factor.specs.Loops.{turn-on, turn-stop, turns-done}
-use Rattle.line.specs.Steps.{stepped}
-use Rattle.line.specs.Runs.{outcome, step-no, step-yes, at-stage, behind, behind-listed}
+use Rattle.factor.specs.Blocks.{ranOk, ranStage}
+use Rattle.factor.specs.Steps.{Step}
+use Rattle.factor.specs.Loops.{Stands, turn-on, turn-stop, turns-done}
+use Rattle.line.specs.Runs.{at-stage, behind, behind-listed}
 use Rattle.line.proofs.runs.undo_all.Statement.{statement}
 use Rattle.line.proofs.runs.undo_all.Tie as tie
 
@@ -28,8 +29,7 @@ Inv-loop sheet y n many v₀ t₀ v t =
     (t ≤ many)
     × (n ≡ count sheet 0)
     × (many ≡ count sheet 1)
-    × Numbers bound v
-    × (whole sheet y ≡ later t (run (inside bound (count sheet 0)) (undo nearest (count sheet 0)) (behind sheet (count sheet 0) (count sheet 1) t) v))
+    × Stands bound (count sheet 0) (undo nearest (count sheet 0)) (behind sheet (count sheet 0) (count sheet 1)) (whole sheet y) t v
 
 abbrev μ-loop : tie.MeasureT-loop
 μ-loop sheet y n many v₀ t₀ v t = many - t
@@ -56,7 +56,7 @@ count-at-requires-2 c κs = count-counts (c .before .pre .0)
 
 loop-holds : tie.Need-loop-holds Inv-loop μ-loop
 unfolding runInverse factors
-loop-holds c = (omega arith, c .before .count-at .ensures, c .count-at2 .ensures, c .before .before .pre .1, rw sub-zero (loop-start _ _ _ _))
+loop-holds c = (omega arith, c .before .count-at .ensures, c .count-at2 .ensures, record { small = c .before .before .pre .1; left = rw sub-zero (loop-start _ _ _ _) })
 
 sub-start-of : tie.Need-sub-start-of Inv-loop μ-loop
 sub-start-of c = omega arith
@@ -68,7 +68,7 @@ start-of-requires : tie.Need-start-of-requires Inv-loop μ-loop
 start-of-requires c κs = let l = c .before .loop in (c .before .before .before .before .pre .0, l .inv .1, omega (arith, l .inv .2))
 
 undo-factor-requires : tie.Need-undo-factor-requires Inv-loop μ-loop
-undo-factor-requires c κs = let r = ranged (c .before .before) in (r .0, r .1, here c, c .before .before .loop .inv .3)
+undo-factor-requires c κs = let r = ranged (c .before .before) in (r .0, r .1, here c, c .before .before .loop .inv .3 .small)
 
 add-t12 : tie.Need-add-t12 Inv-loop μ-loop
 add-t12 c = let l = c .before .before .before .before .before .loop in omega arith
@@ -78,19 +78,18 @@ told :
     (c : tie.After-undo-factor Inv-loop μ-loop) →
     let s = c .before .before .before .before .before .before .args .sheet .now in
     let l = c .before .before .before .loop in
-    c .undo-factor .result ≡ stepped bound (count s 0) (undo nearest (count s 0) (at-stage s (count s 0) (count s 1 - suc (l .t))) (l .v)) (l .v)
+    Step bound (count s 0) (undo nearest (count s 0) (at-stage s (count s 0) (count s 1 - suc (l .t))) (l .v)) (l .v) (c .undo-factor .result .ok) (c .undo-factor .result .block)
 told c =
     let l = c .before .before .before .loop in
-    c .undo-factor .ensures .0 ∙ rw (l .inv .1, c .before .start-of .ensures, last (c .before .before))
+    rw (l .inv .1, c .before .start-of .ensures, last (c .before .before)) at (c .undo-factor .ensures)
 
 returns : tie.Need-returns Inv-loop μ-loop
-unfolding outcome
+unfolding ranOk ranStage ranMemory
 returns c =
     let i = c .before .before .before .before in
     let l = i .before .loop in
     let s = i .before .before .before .before in
-    rw (turn-stop _ _ (behind-listed (s .args .sheet .now) _ _) (l .t) (l .v) (rw (l .inv .2) at (i .loop-test .taken)) (numbers-inside _ (l .inv .3))
-    (step-no _ _ _ _ (told (c .before .before)) (not-true _ (c .if1 .taken))) (l .inv .4))
+    rw (turn-stop (behind-listed (s .args .sheet .now) _ _) (l .t) (rw (l .inv .2) at (i .loop-test .taken)) (l .inv .3) (told (c .before .before)) (not-true _ (c .if1 .taken)))
 
 add-t : tie.Need-add-t Inv-loop μ-loop
 add-t c = omega arith
@@ -107,18 +106,16 @@ loop-again c =
       omega arith,
       l .inv .1,
       l .inv .2,
-      a .undo-factor .ensures .1,
-      rw (step-yes _ _ _ _ (told a) (not-false _ (c .before .if1 .left)))
-          (turn-on _ _ (behind-listed (s .args .sheet .now) _ _) (l .t) (l .v) (rw (l .inv .2) at (i .loop-test .taken)) (numbers-inside _ (l .inv .3)) (l .inv .4)),
+      turn-on (behind-listed (s .args .sheet .now) _ _) (l .t) (rw (l .inv .2) at (i .loop-test .taken)) (l .inv .3) (told a) (not-false _ (c .before .if1 .left)),
     )
 
 returns-2 : tie.Need-returns-2 Inv-loop μ-loop
-unfolding outcome
+unfolding ranOk ranStage ranMemory
 returns-2 c =
     let l = c .before .loop in
     let s = c .before .before .before .before in
     let e : l .t ≡ count (s .args .sheet .now) 1 = omega (arith, l .inv .2) in
-    rw (turns-done _ _ (behind-listed (s .args .sheet .now) _ _) (l .v) (numbers-inside _ (l .inv .3)) (rw e at (l .inv .4)))
+    rw (turns-done (behind-listed (s .args .sheet .now) _ _) (rw e at (l .inv .3)))
 
 pub undo-all-spec : {M : Type 1} → statement M
 undo-all-spec =

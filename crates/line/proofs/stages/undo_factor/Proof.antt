@@ -4,8 +4,9 @@ use native.Mathlib.Omega.{arith}
 use lib.ListN.{length}
 use Rattle.factor.specs.Spots.{spotBy, spotAt}
 use Rattle.factor.specs.Reach.{numbers-put}
+use Rattle.factor.specs.Steps.{step-moves}
 use Rattle.factor.specs.Lies.{lies, moves, kind-yes, kind-no, row-inside}
-use Rattle.line.specs.Links.{moved, unpermute-is, unweigh-is}
+use Rattle.line.specs.Links.{unpermute-is, unweigh-is}
 use borrow.Author.Needs.{needs}
 use Rattle.line.proofs.stages.undo_factor.Statement.{statement}
 use Rattle.line.proofs.stages.undo_factor.Tie as tie
@@ -31,7 +32,7 @@ returns c =
     let a = c .before .before .before in
     let s = a .before in
     let q = kind-yes (s .pre .2) (a .spot-at .ensures) (c .before .before .is-move .ensures) (c .before .if1 .taken) in
-    rw (← (unpermute-is _ _ _ q (s .args .y))) (moved (s .args .n) (s .args .y) (c .unpermute .ensures ∙ rw (a .spot-at .ensures)) (numbers-put (s .args .n) _ (s .pre .3)))
+    step-moves (c .unpermute .ensures ∙ rw (a .spot-at .ensures)) (unpermute-is _ _ _ q (s .args .y)) (numbers-put (s .args .n) _ (s .pre .3))
 
 unweigh-requires : tie.Need-unweigh-requires
 unfolding spotAt spotBy
@@ -46,7 +47,7 @@ returns-2 c =
     let a = c .before .before .before in
     let s = a .before in
     let q = kind-no (s .pre .2) (a .spot-at .ensures) (c .before .before .is-move .ensures) (c .before .if1 .left) in
-    (c .unweigh .ensures .0 ∙ rw (a .spot-at .ensures, unweigh-is _ _ _ (s .pre .2) q (s .args .y) (let o = s .pre .1 in omega (arith, len s)) (row-inside (s .pre .0) (s .pre .2))), c .unweigh .ensures .1)
+    rw (a .spot-at .ensures, unweigh-is _ _ _ (s .pre .2) q (s .args .y) (let o = s .pre .1 in omega (arith, len s)) (row-inside (s .pre .0) (s .pre .2))) at (c .unweigh .ensures)
 
 pub undo-factor-spec : {M : Type 1} → statement M
 undo-factor-spec =

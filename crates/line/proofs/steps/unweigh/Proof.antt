@@ -2,12 +2,11 @@
 use borrow.Author.Needs.{needs}
 use borrow.Author.Tests.{not-true, not-false}
 use mathlib.Core.List.{List}
-use mathlib.Core.Path.{_≡_, refl, sym, ap, _∙_}
+use mathlib.Core.Path.{_≡_, refl, ap, _∙_}
 use Prim.Native.Nat.{ℕ, _-_, _≤_, _<_}
 use native.Mathlib.Numerals.{add-one}
 use native.Mathlib.Omega.{arith}
-use lib.Dec.{leb}
-use lib.IntN.{ℤ, natAbs}
+use lib.IntN.{ℤ}
 use lib.ListN.{length}
 use mir.Syntax.{w32, w64}
 use mir.Val.{toZ, ofZ}
@@ -15,7 +14,8 @@ use Rattle.whole.specs.Diff.{Within}
 use Rattle.whole.specs.Machine.{fits, reads, back}
 use Rattle.rules.specs.Numbers.{bound}
 use Rattle.rules.specs.Laws.Good.{Permutes}
-use Rattle.factor.specs.Reach.{Numbers, numbers-inside, numbers-set, beyond-there, within-test}
+use Rattle.factor.specs.Reach.{Numbers, numbers-set, beyond-there, test-no, test-yes}
+use Rattle.factor.specs.Steps.{step-stops, step-goes}
 use Rattle.factor.specs.Walks.{walk, walk-stays}
 use Rattle.line.specs.Steps.{backAt, walkLine}
 use Rattle.factor.specs.Spots.{placeOf}
@@ -77,17 +77,17 @@ returns c =
     let s = i .before .before in
     let t = i .before .loop .t in
     let h = i .loop-test .taken in
-    let n = s .args .f .order in (
-      rw (beyond-there bound n (W s n) (P s t) (F s t) (permutes s .below t h)
-          (walk-stays (permutes s) (backAt (s .args .sheet .now) (s .args .f)) (s .args .y) (let o = s .pre .0 .order in omega (arith, len s)) t n h (omega arith))
-          (ap (λ (z : ℤ). leb (natAbs z) bound) (sym (value (c .before .before))) ∙ sym (c .before .is-within .ensures) ∙ not-true _ (c .if1 .taken))),
-      s .pre .2,
-    )
+    let n = s .args .f .order in
+    step-stops
+    (beyond-there bound n (W s n) (P s t) (F s t) (permutes s .below t h)
+    (walk-stays (permutes s) (backAt (s .args .sheet .now) (s .args .f)) (s .args .y) (let o = s .pre .0 .order in omega (arith, len s)) t n h (omega arith))
+    (test-no bound (value (c .before .before)) (c .before .is-within .ensures) (not-true _ (c .if1 .taken))))
+    (s .pre .2)
 
 held :
     (c : tie.Else1 Inv-loop μ-loop) →
     Within bound (F (c .before .before .before .before .before .before .before) (c .before .before .before .before .before .before .loop .t))
-held c = within-test bound _ (ap (λ (z : ℤ). leb (natAbs z) bound) (sym (value (c .before .before))) ∙ sym (c .before .is-within .ensures) ∙ not-false _ (c .if1 .left))
+held c = test-yes bound (value (c .before .before)) (c .before .is-within .ensures) (not-false _ (c .if1 .left))
 
 cast-x : tie.Need-cast-x Inv-loop μ-loop
 cast-x c = rw (value (c .before .before)) (fits (held c) tt)
@@ -120,7 +120,7 @@ returns-2 c =
     let l = c .before .loop in
     let e : l .t ≡ s .args .f .order = omega arith in
     let x : l .x ≡ W s (s .args .f .order) = l .inv .1 ∙ ap (W s) e in
-    (rw (← x, numbers-inside (s .args .f .order) (l .inv .2)), l .inv .2)
+    step-goes x (l .inv .2)
 
 pub unweigh-spec : {M : Type 1} → statement M
 unweigh-spec =

@@ -1,12 +1,11 @@
 -- The new block has its first m elements, each from the old one, and all of it is in bound.
 use borrow.Author.Needs.{needs}
 use borrow.Author.Tests.{not-true, not-false}
-use mathlib.Core.Path.{_≡_, refl, sym, ap, _∙_}
+use mathlib.Core.Path.{_≡_, refl, ap, _∙_}
 use Prim.Native.Nat.{ℕ, _-_, _≤_}
 use native.Mathlib.Numerals.{add-one}
 use native.Mathlib.Omega.{arith}
-use lib.Dec.{leb}
-use lib.IntN.{ℤ, natAbs}
+use lib.IntN.{ℤ}
 use lib.ListN.{length}
 use mir.Syntax.{w32, w64}
 use mir.Val.{toZ, ofZ}
@@ -15,7 +14,8 @@ use Rattle.whole.specs.Machine.{fits, reads, back}
 use Rattle.rules.specs.Numbers.{bound}
 use Rattle.rules.specs.Stages.{fill}
 use Rattle.rules.specs.Laws.Lists.{fill-at}
-use Rattle.factor.specs.Reach.{Numbers, numbers-inside, numbers-set, beyond-there, within-test}
+use Rattle.factor.specs.Reach.{Numbers, numbers-set, beyond-there, test-no, test-yes}
+use Rattle.factor.specs.Steps.{step-stops, step-goes}
 use Rattle.line.specs.Steps.{outAt}
 use Rattle.line.proofs.steps.weigh.Statement.{statement}
 use Rattle.line.proofs.steps.weigh.Tie as tie
@@ -53,17 +53,17 @@ returns c =
     let i = c .before .before .before .before in
     let s = i .before .before in
     let m = i .before .loop .m in
-    let h = i .loop-test .taken in (
-      rw (beyond-there bound (s .args .f .order) (fill (s .args .f .order) (F s) (s .args .t3)) m (F s m) h
-          (fill-at _ (F s) (s .args .t3) m h (let o = s .pre .0 .order in omega (arith, len s)))
-          (ap (λ (z : ℤ). leb (natAbs z) bound) (sym (value (c .before .before))) ∙ sym (c .before .is-within .ensures) ∙ not-true _ (c .if1 .taken))),
-      s .pre .1,
-    )
+    let h = i .loop-test .taken in
+    step-stops
+    (beyond-there bound (s .args .f .order) (fill (s .args .f .order) (F s) (s .args .t3)) m (F s m) h
+    (fill-at _ (F s) (s .args .t3) m h (let o = s .pre .0 .order in omega (arith, len s)))
+    (test-no bound (value (c .before .before)) (c .before .is-within .ensures) (not-true _ (c .if1 .taken))))
+    (s .pre .1)
 
 held :
     (c : tie.Else1 Inv-loop μ-loop) →
     Within bound (F (c .before .before .before .before .before .before) (c .before .before .before .before .before .loop .m))
-held c = within-test bound _ (ap (λ (z : ℤ). leb (natAbs z) bound) (sym (value (c .before .before))) ∙ sym (c .before .is-within .ensures) ∙ not-false _ (c .if1 .left))
+held c = test-yes bound (value (c .before .before)) (c .before .is-within .ensures) (not-false _ (c .if1 .left))
 
 cast-y : tie.Need-cast-y Inv-loop μ-loop
 cast-y c = rw (value (c .before .before)) (fits (held c) tt)
@@ -95,7 +95,7 @@ returns-2 c =
     let l = c .before .loop in
     let e : l .m ≡ s .args .f .order = omega arith in
     let y : l .y ≡ fill (s .args .f .order) (F s) (s .args .t3) = l .inv .1 ∙ ap (λ (k : ℕ). fill k (F s) (s .args .t3)) e in
-    (rw (← y, numbers-inside (s .args .f .order) (l .inv .2)), l .inv .2)
+    step-goes y (l .inv .2)
 
 pub weigh-spec : {M : Type 1} → statement M
 weigh-spec =

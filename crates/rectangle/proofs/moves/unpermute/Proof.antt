@@ -6,12 +6,9 @@ use native.Mathlib.Omega.{arith}
 use mir.Syntax.{w32}
 use Rattle.whole.specs.Machine.{back}
 use Rattle.rules.specs.Stages.{putBack}
-use Rattle.rectangle.specs.Steps.{sourceOf, source-below, few}
+use Rattle.rectangle.specs.Moves.{sourceOf, source-below, few}
 use Rattle.rectangle.proofs.moves.unpermute.Statement.{statement}
 use Rattle.rectangle.proofs.moves.unpermute.Tie as tie
-use Rattle.rectangle.proofs.moves.unpermute.Reads as own-reads
-use Rattle.rectangle.proofs.moves.unpermute.Lts as lts
-use Rattle.rectangle.proofs.moves.source_of.Reads as source-of-reads
 
 abbrev Inv-loop : tie.InvT-loop
 Inv-loop col fa row fb y n x₀ e₀ x e = (e ≤ n) × (x ≡ putBack e (sourceOf col fa row fb) y)
@@ -19,16 +16,13 @@ Inv-loop col fa row fb y n x₀ e₀ x e = (e ≤ n) × (x ≡ putBack e (source
 abbrev μ-loop : tie.MeasureT-loop
 μ-loop col fa row fb y n x₀ e₀ x e = n - e
 
--- src/moves.rt:41:13
 mul-n : tie.Need-mul-n Inv-loop μ-loop
 mul-n c = let h = few (c .before .before .pre .0) (c .before .before .pre .1) in omega arith
 
--- src/moves.rt:43:5
 loop-holds : tie.Need-loop-holds Inv-loop μ-loop
 unfolding putBack
 loop-holds c = (omega arith, refl)
 
--- src/moves.rt:44:13
 source-of-requires : tie.Need-source-of-requires Inv-loop μ-loop
 source-of-requires c κs = let s = c .before .before .before .before in (s .pre .0, s .pre .1, c .loop-test .taken)
 
@@ -38,36 +32,28 @@ room c = let s = c .before .before .before .before .before in rw (c .source-of .
 inside : (c : tie.After-source-of Inv-loop μ-loop) → c .before .before .loop .e < 256
 inside c = let s = c .before .before .before .before .before in let l = few (s .pre .0) (s .pre .1) in omega arith
 
--- src/moves.rt:45:16
 mul-x : tie.Need-mul-x Inv-loop μ-loop
 mul-x c = let h = room c in let k = inside c in omega arith
 
--- src/moves.rt:45:16
 array-copy-out-x : tie.Need-array-copy-out-x Inv-loop μ-loop
 array-copy-out-x c = let h = room c in let k = inside c in omega arith
 
--- src/moves.rt:45:9
 mul-x-2 : tie.Need-mul-x-2 Inv-loop μ-loop
 mul-x-2 c = let h = room (c .before) in let k = inside (c .before) in omega arith
 
--- src/moves.rt:45:9
 array-set-from-x : tie.Need-array-set-from-x Inv-loop μ-loop
 array-set-from-x c = let h = room (c .before) in let k = inside (c .before) in omega arith
 
--- src/moves.rt:43:9
 add-e : tie.Need-add-e Inv-loop μ-loop
 add-e c = let k = inside (c .before) in omega arith
 
--- src/moves.rt:43:5
 loop-less : tie.Need-loop-less Inv-loop μ-loop
 loop-less c = omega arith
 
--- src/moves.rt:43:5
 loop-again : tie.Need-loop-again Inv-loop μ-loop
 unfolding putBack
 loop-again c = (omega arith, rw (add-one, back w32 _ (c .x .given), c .before .source-of .ensures, c .before .before .before .loop .inv .1))
 
--- src/moves.rt:37:1
 returns : tie.Need-returns Inv-loop μ-loop
 returns c =
     let s = c .before .before .before .before in let e : c .before .loop .e ≡ s .args .fa .order * s .args .fb .order = omega arith in c .before .loop .inv .1 ∙ rw e

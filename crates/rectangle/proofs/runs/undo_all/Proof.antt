@@ -4,26 +4,22 @@ use mathlib.Core.Path.{_≡_, _∙_}
 use Prim.Native.Nat.{suc, _-_, _≤_}
 use native.Mathlib.Omega.{arith}
 use Rattle.rules.specs.Numbers.{bound, count}
-use Rattle.rules.specs.Stages.{nearest, undo, inside, later, run, runInverse}
+use Rattle.rules.specs.Stages.{nearest, undo, runInverse}
+use Rattle.rules.specs.Calls.{ranMemory}
 use Rattle.rules.specs.Laws.Runs.{loop-start}
 use Rattle.laws.specs.Accepted.{order-counts, count-counts}
 use Rattle.laws.specs.Sound.{counts-agree}
-use Rattle.factor.specs.Reach.{Numbers, numbers-inside}
-use Rattle.factor.specs.Loops.{turn-on, turn-stop, turns-done}
-use Rattle.rectangle.specs.Steps.{stepped}
+use Rattle.factor.specs.Blocks.{ranOk, ranStage}
+use Rattle.factor.specs.Steps.{Step}
+use Rattle.factor.specs.Loops.{Stands, turn-on, turn-stop, turns-done}
 use Rattle.rectangle.specs.Links.{Paired}
-use Rattle.rectangle.specs.Runs.{outcome, step-no, step-yes, paired, sizeOf, stagesOf, at-stage, behind, behind-listed, behind-all}
+use Rattle.rectangle.specs.Runs.{paired, sizeOf, stagesOf, at-stage, behind, behind-listed, behind-all}
 use Rattle.rectangle.proofs.runs.undo_all.Statement.{statement}
 use Rattle.rectangle.proofs.runs.undo_all.Tie as tie
-use Rattle.rectangle.proofs.runs.undo_all.Reads as own-reads
-use Rattle.rectangle.proofs.runs.undo_all.Lts as lts
-use Rattle.rectangle.proofs.runs.start_of.Reads as start-of-reads
-use Rattle.rectangle.proofs.stages.undo_pair.Reads as undo-pair-reads
-use Rattle.sheet.proofs.places.count_at.Reads as count-at-reads
 
 abbrev Inv-loop : tie.InvT-loop
 Inv-loop col row y n1 n2 many v₀ t₀ v t =
-    (t ≤ many) × (n1 ≡ count col 0) × (n2 ≡ count row 0) × (many ≡ count col 1) × Numbers bound v × (runInverse nearest (sizeOf col row) (stagesOf col row) y ≡ later t (run (inside bound (sizeOf col row)) (undo nearest (sizeOf col row)) (behind col row t) v))
+    (t ≤ many) × (n1 ≡ count col 0) × (n2 ≡ count row 0) × (many ≡ count col 1) × Stands bound (sizeOf col row) (undo nearest (sizeOf col row)) (behind col row) (runInverse nearest (sizeOf col row) (stagesOf col row) y) t v
 
 abbrev μ-loop : tie.MeasureT-loop
 μ-loop col row y n1 n2 many v₀ t₀ v t = many - t
@@ -40,19 +36,15 @@ here c =
     let l = i .before .loop in
     rw (c .before .start-of .ensures, c .start-of2 .ensures, l .inv .1, l .inv .2) (paired (i .before .before .before .before .before .pre .0) _ (omega (arith, l .inv .3)))
 
--- src/runs.rt:71:9
 count-at-requires : tie.Need-count-at-requires Inv-loop μ-loop
 count-at-requires c κs = order-counts (c .pre .0 .column)
 
--- src/runs.rt:72:9
 count-at-requires-2 : tie.Need-count-at-requires-2 Inv-loop μ-loop
 count-at-requires-2 c κs = order-counts (c .before .pre .0 .row)
 
--- src/runs.rt:73:9
 count-at-requires-3 : tie.Need-count-at-requires-3 Inv-loop μ-loop
 count-at-requires-3 c κs = count-counts (c .before .before .pre .0 .column)
 
--- src/runs.rt:75:5
 loop-holds : tie.Need-loop-holds Inv-loop μ-loop
 unfolding runInverse
 loop-holds c =
@@ -61,32 +53,25 @@ loop-holds c =
       c .before .before .count-at .ensures,
       c .before .count-at2 .ensures,
       c .count-at3 .ensures,
-      s .pre .1,
-      loop-start _ _ _ _ ∙ rw (behind-all (s .args .col .now) (s .args .row .now) (s .pre .0)),
+      record { small = s .pre .1; left = loop-start _ _ _ _ ∙ rw (behind-all (s .args .col .now) (s .args .row .now) (s .pre .0)) },
     )
 
--- src/runs.rt:76:17
 sub-f : tie.Need-sub-f Inv-loop μ-loop
 sub-f c = omega arith
 
--- src/runs.rt:76:17
 sub-f-2 : tie.Need-sub-f-2 Inv-loop μ-loop
 sub-f-2 c = omega arith
 
--- src/runs.rt:77:13
 start-of-requires : tie.Need-start-of-requires Inv-loop μ-loop
 start-of-requires c κs = let l = c .before .loop in let s = c .before .before .before .before .before in (s .pre .0 .column, l .inv .1, omega (arith, l .inv .3))
 
--- src/runs.rt:78:13
 start-of-requires-2 : tie.Need-start-of-requires-2 Inv-loop μ-loop
 start-of-requires-2 c κs =
     let l = c .before .before .loop in let s = c .before .before .before .before .before .before in (s .pre .0 .row, l .inv .2, omega (arith, l .inv .3, counts-agree _ _ (s .pre .0 .match)))
 
--- src/runs.rt:79:13
 undo-pair-requires : tie.Need-undo-pair-requires Inv-loop μ-loop
-undo-pair-requires c κs = (here c, c .before .before .before .loop .inv .4)
+undo-pair-requires c κs = (here c, c .before .before .before .loop .inv .4 .small)
 
--- src/runs.rt:83:24
 add-t15 : tie.Need-add-t15 Inv-loop μ-loop
 add-t15 c = let l = c .before .before .before .before .before .before .loop in omega arith
 
@@ -96,30 +81,25 @@ told :
     let s = c .before .before .before .before .before .before .before .before in
     let l = c .before .before .before .before .loop in
     let N = sizeOf (s .args .col .now) (s .args .row .now) in
-    c .undo-pair .result ≡ stepped bound N (undo nearest N (at-stage (s .args .col .now) (s .args .row .now) (count (s .args .col .now) 1 - suc (l .t))) (l .v)) (l .v)
+    Step bound N (undo nearest N (at-stage (s .args .col .now) (s .args .row .now) (count (s .args .col .now) 1 - suc (l .t))) (l .v)) (l .v) (c .undo-pair .result .ok) (c .undo-pair .result .block)
 told c =
     let l = c .before .before .before .before .loop in
-    c .undo-pair .ensures .0 ∙ rw (l .inv .1, l .inv .2, c .before .before .start-of .ensures, c .before .start-of2 .ensures, last (c .before .before .before))
+    rw (l .inv .1, l .inv .2, c .before .before .start-of .ensures, c .before .start-of2 .ensures, last (c .before .before .before)) at (c .undo-pair .ensures)
 
--- src/runs.rt:81:13
 returns : tie.Need-returns Inv-loop μ-loop
-unfolding outcome
+unfolding ranOk ranStage ranMemory
 returns c =
     let i = c .before .before .before .before .before in
     let l = i .before .loop in
     let s = i .before .before .before .before .before in
-    rw (turn-stop _ _ (behind-listed (s .args .col .now) (s .args .row .now)) (l .t) (l .v) (rw (l .inv .3) at (i .loop-test .taken)) (numbers-inside _ (l .inv .4))
-    (step-no _ _ _ _ (told (c .before .before)) (not-true _ (c .if1 .taken))) (l .inv .5))
+    rw (turn-stop (behind-listed (s .args .col .now) (s .args .row .now)) (l .t) (rw (l .inv .3) at (i .loop-test .taken)) (l .inv .4) (told (c .before .before)) (not-true _ (c .if1 .taken)))
 
--- src/runs.rt:75:9
 add-t : tie.Need-add-t Inv-loop μ-loop
 add-t c = omega arith
 
--- src/runs.rt:75:5
 loop-less : tie.Need-loop-less Inv-loop μ-loop
 loop-less c = omega arith
 
--- src/runs.rt:75:5
 loop-again : tie.Need-loop-again Inv-loop μ-loop
 loop-again c =
     let i = c .before .before .before .before .before .before in
@@ -130,19 +110,16 @@ loop-again c =
       l .inv .1,
       l .inv .2,
       l .inv .3,
-      a .undo-pair .ensures .1,
-      rw (step-yes _ _ _ _ (told a) (not-false _ (c .before .if1 .left)))
-          (turn-on _ _ (behind-listed (s .args .col .now) (s .args .row .now)) (l .t) (l .v) (rw (l .inv .3) at (i .loop-test .taken)) (numbers-inside _ (l .inv .4)) (l .inv .5)),
+      turn-on (behind-listed (s .args .col .now) (s .args .row .now)) (l .t) (rw (l .inv .3) at (i .loop-test .taken)) (l .inv .4) (told a) (not-false _ (c .before .if1 .left)),
     )
 
--- src/runs.rt:67:1
 returns-2 : tie.Need-returns-2 Inv-loop μ-loop
-unfolding outcome
+unfolding ranOk ranStage ranMemory
 returns-2 c =
     let l = c .before .loop in
     let s = c .before .before .before .before .before in
     let e : l .t ≡ count (s .args .col .now) 1 = omega (arith, l .inv .3) in
-    rw (turns-done _ _ (behind-listed (s .args .col .now) (s .args .row .now)) (l .v) (numbers-inside _ (l .inv .4)) (rw e at (l .inv .5)))
+    rw (turns-done (behind-listed (s .args .col .now) (s .args .row .now)) (rw e at (l .inv .4)))
 
 pub undo-all-spec : {M : Type 1} → statement M
 undo-all-spec =

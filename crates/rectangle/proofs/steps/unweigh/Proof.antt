@@ -9,20 +9,17 @@ use native.Mathlib.Omega.{arith}
 use lib.IntN.{ℤ}
 use lib.ListN.{length}
 use Rattle.rules.specs.Numbers.{bound}
-use Rattle.factor.specs.Reach.{Numbers, numbers-inside}
+use Rattle.factor.specs.Reach.{Numbers}
+use Rattle.factor.specs.Steps.{step-stops, step-goes}
 use Rattle.factor.specs.Walks.{walk, length-walk}
 use Rattle.rules.specs.Laws.Good.{Permutes}
 use Rattle.factor.specs.Spots.{placeOf}
 use Rattle.factor.specs.Turns.{places-permute}
-use Rattle.rectangle.specs.Elements.{backOf}
+use Rattle.joint.specs.Elements.{backOf}
 use Rattle.rectangle.specs.Order.{pairPlace, pair-permutes, pair-row}
-use Rattle.rectangle.specs.Went.{inRow, row-stuck, row-on, no-row}
+use Rattle.joint.specs.Went.{inRow, row-stuck, row-on, no-row}
 use Rattle.rectangle.proofs.steps.unweigh.Statement.{statement}
 use Rattle.rectangle.proofs.steps.unweigh.Tie as tie
-use Rattle.rectangle.proofs.steps.unweigh.Reads as own-reads
-use Rattle.rectangle.proofs.steps.unweigh.Lts as lts
-use Rattle.factor.proofs.place_of.Reads as place-of-reads
-use Rattle.rectangle.proofs.rows.unweigh_row.Reads as unweigh-row-reads
 
 abbrev Inv-loop : tie.InvT-loop
 Inv-loop col fa row fb y n x₀ s₀ x s = (s ≤ n) × (x ≡ walk (backOf col fa row fb) (pairPlace fa fb) (s * fb .order) y) × Numbers bound x
@@ -30,11 +27,9 @@ Inv-loop col fa row fb y n x₀ s₀ x s = (s ≤ n) × (x ≡ walk (backOf col 
 abbrev μ-loop : tie.MeasureT-loop
 μ-loop col fa row fb y n x₀ s₀ x s = n - s
 
--- src/steps.rt:46:5
 loop-holds : tie.Need-loop-holds Inv-loop μ-loop
 loop-holds c = (omega arith, no-row _ _ _ _, c .pre .4)
 
--- src/steps.rt:47:13
 place-of-requires : tie.Need-place-of-requires Inv-loop μ-loop
 place-of-requires c κs = (c .loop-test .taken, c .before .before .pre .2)
 
@@ -64,7 +59,6 @@ turns : (c : tie.After-place-of Inv-loop μ-loop) (u : ℕ) → u < c .before .b
     pairPlace (c .before .before .before .args .fa) (c .before .before .before .args .fb) (c .before .before .loop .s * c .before .before .before .args .fb .order + u) ≡ Q c u
 turns c u g = let s = c .before .before .before in pair-row (s .args .fa) (s .args .fb) (c .before .before .loop .s) u g ∙ rw (c .place-of .ensures)
 
--- src/steps.rt:48:13
 unweigh-row-requires : tie.Need-unweigh-row-requires Inv-loop μ-loop
 unweigh-row-requires c κs =
     let p = c .before in
@@ -77,25 +71,22 @@ unweigh-row-requires c κs =
       ap length (p .before .before .loop .inv .1) ∙ length-walk _ _ (p .before .before .loop .s * s .args .fb .order) _ ∙ len s,
     )
 
--- src/steps.rt:49:13
 returns : tie.Need-returns Inv-loop μ-loop
 returns c =
     let p = c .before .before .before in
     let s = p .before .before .before in
     let l = p .before .before .loop in
-    rw (row-stuck (permutes s) bound (backOf (s .args .col .now) (s .args .fa) (s .args .row .now) (s .args .fb)) (s .args .y) (room s) (s .args .fa .order) (s .args .fb .order) (l .s) (Q p) refl
+    step-stops
+    (row-stuck (permutes s) bound (backOf (s .args .col .now) (s .args .fa) (s .args .row .now) (s .args .fb)) (s .args .y) (room s) (s .args .fa .order) (s .args .fb .order) (l .s) (Q p) refl
     (p .before .loop-test .taken) (turns p) (l .inv .1) (c .before .unweigh-row .ensures .stuck (not-true _ (c .if1 .taken))))
-    (refl, s .pre .4)
+    (s .pre .4)
 
--- src/steps.rt:46:9
 add-s : tie.Need-add-s Inv-loop μ-loop
 add-s c = omega arith
 
--- src/steps.rt:46:5
 loop-less : tie.Need-loop-less Inv-loop μ-loop
 loop-less c = omega arith
 
--- src/steps.rt:46:5
 loop-again : tie.Need-loop-again Inv-loop μ-loop
 loop-again c =
     let p = c .before .before .before in
@@ -104,14 +95,13 @@ loop-again c =
     let w = c .before .unweigh-row .ensures .through (not-false _ (c .if1 .left)) in
     (omega arith, row-on (backOf (s .args .col .now) (s .args .fa) (s .args .row .now) (s .args .fb)) (pairPlace (s .args .fa) (s .args .fb)) (s .args .fb .order) (l .s) (Q p) (s .args .y) (turns p) (l .inv .1) (w .0), w .1)
 
--- src/steps.rt:40:1
 returns-2 : tie.Need-returns-2 Inv-loop μ-loop
 returns-2 c =
     let s = c .before .before in
     let l = c .before .loop in
     let e : l .s ≡ s .args .fa .order = omega arith in
     let x : l .x ≡ W s (N s) = l .inv .1 ∙ ap (λ (k : ℕ). W s (k * s .args .fb .order)) e in
-    rw (← x, numbers-inside (N s) (l .inv .2)) (refl, l .inv .2)
+    step-goes x (l .inv .2)
 
 pub unweigh-spec : {M : Type 1} → statement M
 unweigh-spec =

@@ -10,15 +10,13 @@ use lib.IntN.{ℤ}
 use lib.ListN.{length}
 use Rattle.rules.specs.Numbers.{bound}
 use Rattle.rules.specs.Stages.{fill, inside}
-use Rattle.factor.specs.Reach.{Numbers, numbers-inside}
+use Rattle.factor.specs.Reach.{Numbers}
+use Rattle.factor.specs.Steps.{step-stops, step-goes}
 use Rattle.factor.specs.Walks.{walk}
-use Rattle.rectangle.specs.Elements.{outOf}
-use Rattle.rectangle.specs.Went.{plain, inRow, walk-fill, same-permutes, row-stuck, row-on, no-row}
+use Rattle.joint.specs.Elements.{outOf}
+use Rattle.joint.specs.Went.{plain, inRow, walk-fill, same-permutes, row-stuck, row-on, no-row}
 use Rattle.rectangle.proofs.steps.weigh.Statement.{statement}
 use Rattle.rectangle.proofs.steps.weigh.Tie as tie
-use Rattle.rectangle.proofs.steps.weigh.Reads as own-reads
-use Rattle.rectangle.proofs.steps.weigh.Lts as lts
-use Rattle.rectangle.proofs.rows.weigh_row.Reads as weigh-row-reads
 
 abbrev Inv-loop : tie.InvT-loop
 Inv-loop col fa row fb x n y₀ i₀ y i = (i ≤ n) × (y ≡ walk (plain (outOf col fa row fb x)) (λ e. e) (i * fb .order) x) × Numbers bound y
@@ -26,11 +24,9 @@ Inv-loop col fa row fb x n y₀ i₀ y i = (i ≤ n) × (y ≡ walk (plain (outO
 abbrev μ-loop : tie.MeasureT-loop
 μ-loop col fa row fb x n y₀ i₀ y i = n - i
 
--- src/steps.rt:30:5
 loop-holds : tie.Need-loop-holds Inv-loop μ-loop
 loop-holds c = (omega arith, no-row _ _ _ _, c .pre .2)
 
--- src/steps.rt:31:13
 weigh-row-requires : tie.Need-weigh-row-requires Inv-loop μ-loop
 weigh-row-requires c κs =
     let s = c .before .before .before .before in (s .pre .0, s .pre .1, c .before .before .loop-test .taken, s .pre .2, c .before .before .before .loop .inv .2)
@@ -47,7 +43,6 @@ room s = omega (arith, mul-le-mul (s .pre .0 .order) (s .pre .1 .order), len s)
     len : (s : tie.Start Inv-loop μ-loop) → length (s .args .t5) ≡ 256
     len s = search needs
 
--- src/steps.rt:32:13
 returns : tie.Need-returns Inv-loop μ-loop
 returns c =
     let s = c .before .before .before .before .before .before in
@@ -57,17 +52,14 @@ returns c =
     rw (← (walk-fill (F s) (N s) (s .args .t5)))
     (row-stuck (same-permutes (N s)) bound (plain (F s)) (s .args .t5) (room s) (s .args .fa .order) n (l .i) (inRow n (l .i)) refl
     (c .before .before .before .before .loop-test .taken) (λ u g. refl) (l .inv .1) (c .before .weigh-row .ensures .stuck (not-true _ (c .if1 .taken)))) in
-    rw b (refl, s .pre .2)
+    step-stops b (s .pre .2)
 
--- src/steps.rt:30:9
 add-i : tie.Need-add-i Inv-loop μ-loop
 add-i c = omega arith
 
--- src/steps.rt:30:5
 loop-less : tie.Need-loop-less Inv-loop μ-loop
 loop-less c = omega arith
 
--- src/steps.rt:30:5
 loop-again : tie.Need-loop-again Inv-loop μ-loop
 loop-again c =
     let s = c .before .before .before .before .before .before in
@@ -76,14 +68,13 @@ loop-again c =
     let w = c .before .weigh-row .ensures .through (not-false _ (c .if1 .left)) in
     (omega arith, row-on (plain (F s)) (λ e. e) n (l .i) (inRow n (l .i)) (s .args .t5) (λ u g. refl) (l .inv .1) (w .0), w .1)
 
--- src/steps.rt:24:1
 returns-2 : tie.Need-returns-2 Inv-loop μ-loop
 returns-2 c =
     let s = c .before .before in
     let l = c .before .loop in
     let e : l .i ≡ s .args .fa .order = omega arith in
     let y : l .y ≡ fill (N s) (F s) (s .args .t5) = l .inv .1 ∙ ap (λ (k : ℕ). walk (plain (F s)) (λ e. e) (k * s .args .fb .order) (s .args .t5)) e ∙ walk-fill (F s) (N s) (s .args .t5) in
-    rw (← y, numbers-inside (N s) (l .inv .2)) (refl, l .inv .2)
+    step-goes y (l .inv .2)
 
 pub weigh-spec : {M : Type 1} → statement M
 weigh-spec =

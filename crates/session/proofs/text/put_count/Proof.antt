@@ -1,7 +1,7 @@
 -- A blank, then the digits.
 use mathlib.Core.List.{List, _∷_}
 use mathlib.Core.Path.{sym, ap}
-use Prim.Native.Nat.{ℕ, _-_}
+use Prim.Native.Nat.{ℕ}
 use Rattle.session.specs.Writing.{wrote-then, wrote-as}
 use Rattle.session.specs.Digits.{decimal-count}
 use borrow.Author.Needs.{needs}

@@ -1,6 +1,5 @@
 -- Below zero a minus stands before the digits.
 use mathlib.Core.Path.{_≡_, sym}
-use Prim.Native.Nat.{_-_}
 use Rattle.session.specs.Writing.{wrote-then, wrote-as}
 use lib.IntN.{pos}
 use lib.Signed.{ltZ}

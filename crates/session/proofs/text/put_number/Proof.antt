@@ -1,5 +1,4 @@
 -- A blank, then the number.
-use Prim.Native.Nat.{_-_}
 use Rattle.session.specs.Writing.{wrote-then}
 use mir.Facts.{toZ-ofZ}
 use borrow.Author.Needs.{needs}

@@ -1,0 +1,41 @@
+-- A row of weights of a checked factor, and its own, are as the sums ask (`band-at`).
+use mathlib.Core.Path.{_≡_, _∙_, ap}
+use native.Mathlib.Omega.{arith}
+use mir.Syntax.{w32}
+use mir.Val.{toZ, ofZ}
+use Rattle.whole.specs.Machine.{fits, back}
+use Rattle.factor.specs.Reach.{numbers-le}
+use Rattle.joint.specs.Elements.{signAt, ownOf, own-small, band-at}
+use borrow.Author.Needs.{needs}
+use Rattle.joint.proofs.elements.sums_at.Statement.{statement}
+use Rattle.joint.proofs.elements.sums_at.Tie as tie
+
+row-of-requires : tie.Need-row-of-requires
+row-of-requires c κs = let h = c .pre .0 in let r = h .row (c .args .i) (c .pre .1) .room in (c .pre .1, h .order, omega arith)
+
+sign-at-requires : tie.Need-sign-at-requires
+sign-at-requires c κs = search needs
+
+sign : (c : tie.After-sign-at) → toZ w32 (ofZ w32 (c .sign-at .result)) ≡ signAt (c .before .before .args .col .now) (c .before .before .args .f) (c .before .before .args .i)
+sign c = back w32 _ (c .sign-at .ok) ∙ c .sign-at .ensures
+
+own : (c : tie.After-own-of) → toZ w32 (ofZ w32 (c .own-of .result)) ≡ ownOf (signAt (c .before .before .before .args .col .now) (c .before .before .before .args .f) (c .before .before .before .args .i))
+own c = back w32 _ (c .own-of .ok) ∙ c .own-of .ensures ∙ ap ownOf (sign (c .before))
+
+own-of-requires : tie.Need-own-of-requires
+own-of-requires c κs =
+    let s = c .before .before in
+    rw (sign c) (fits (own-small (s .pre .0 .sign (s .args .i) (s .pre .1))) tt)
+
+column-sums-requires : tie.Need-column-sums-requires
+column-sums-requires c κs =
+    let s = c .before .before .before in
+    rw (own c, c .before .before .row-of .ensures) (band-at (s .pre .0) (s .args .i) (s .pre .1), s .pre .2, numbers-le (omega arith) (s .pre .3))
+
+returns : tie.Need-returns
+returns c = c .column-sums .ensures ∙ rw (own (c .before), c .before .before .before .row-of .ensures)
+
+pub sums-at-spec : {M : Type 1} → statement M
+sums-at-spec =
+    tie.close
+    (tie.spec row-of-requires sign-at-requires own-of-requires column-sums-requires returns)

@@ -1,0 +1,4 @@
+pub mod Sums
+pub mod Elements
+pub mod Sizes
+pub mod Went

@@ -1,0 +1,91 @@
+// One element's allowance: v has the sums of its row over the columns, b is its allowance so far.
+ghost use mathlib.Core.Path.{_≡_};
+ghost use Prim.Native.Nat.{_+_, _≤_, _<_};
+ghost use lib.IntN.{pos, _+ℤ_};
+ghost use lib.Signed.{shrZ};
+ghost use mir.Syntax.{w64};
+ghost use mir.Val.{SFits};
+ghost use Rattle.whole.specs.Diff.{Within};
+ghost use Rattle.rules.specs.Numbers.{mostAllowance};
+ghost use Rattle.factor.specs.Reach.{Numbers};
+ghost use Rattle.factor.specs.Lies.{Lies};
+ghost use Rattle.joint.specs.Sums.{mostColumn};
+ghost use Rattle.joint.specs.Sizes.{sizeSums, sizeSum, wholeRow, shareOf, allowAt};
+use crate::sums::column_sums;
+use crate::sums::joint_sum;
+use factor::Row;
+use factor::Spot;
+use factor::magnitudes::are_whole;
+use factor::magnitudes::magnitudes;
+use factor::rounding::raised;
+use factor::row_of;
+
+// The quotient s / 16777216 upward.
+fn raise_joint(s: i64) -> i64
+    requires { ⌜ SFits w64 (s +ℤ pos 16777215) × SFits w64 (shrZ (s +ℤ pos 16777215) 16777216) ⌝ }
+    ensures { λ r. ⌜ r ≡ shrZ (s +ℤ pos 16777215) 16777216 ⌝ }
+{
+    (s + 16777215) >> 24
+}
+
+// The sums of row i over the n columns of a block of allowances, with magnitudes.
+pub fn size_sums_at(col: &[i32], f: Spot, i: usize, b: &[i32; 256], n: usize) -> [i64; 16]
+    requires { ⌜ Lies (now col) f × (i < f .order) × (n ≤ 16) × Numbers mostAllowance (now b) ⌝ }
+    ensures { λ r. ⌜ r ≡ sizeSums (now (col .entry)) f i (now (b .entry)) n ⌝ }
+{
+    let r = row_of(f, i);
+    let at = r.at;
+    let left = r.left;
+    let right = r.right;
+    let a = magnitudes(col, at, left + right);
+    column_sums(&a, Row { at: 0, left, right }, i, 4096, b, n)
+}
+
+// The sum of the element in column j, with magnitudes.
+fn size_sum_at(row: &[i32], f: Spot, j: usize, v: &[i64; 16], b: i32) -> i64
+    requires { ⌜ Lies (now row) f × (j < f .order) × Numbers mostColumn (now v) × Within mostAllowance b ⌝ }
+    ensures { λ r. ⌜ r ≡ sizeSum (now (row .entry)) f j (now (v .entry)) b ⌝ }
+{
+    let r = row_of(f, j);
+    let at = r.at;
+    let left = r.left;
+    let right = r.right;
+    let a = magnitudes(row, at, left + right);
+    joint_sum(&a, Row { at: 0, left, right }, j, 4096, 4096, v, b)
+}
+
+// Whether row m has only multiples of 4096.
+pub fn is_whole_row(sheet: &[i32], f: Spot, m: usize) -> bool
+    requires { ⌜ Lies (now sheet) f × (m < f .order) ⌝ }
+    ensures { λ r. ⌜ r ≡ wholeRow (now (sheet .entry)) f m ⌝ }
+{
+    let r = row_of(f, m);
+    let at = r.at;
+    let left = r.left;
+    let right = r.right;
+    are_whole(sheet, at, left + right)
+}
+
+// The 2048 that a rounding adds, unless both rows have only multiples of 4096.
+fn share_of(a: bool, b: bool) -> i64
+    ensures { λ r. ⌜ r ≡ shareOf a b ⌝ }
+{
+    if a {
+        if b {
+            return 0;
+        }
+    }
+    2048
+}
+
+// What the element's allowance becomes; whole says that its row has only multiples of 4096.
+pub fn allow_at(row: &[i32], f: Spot, j: usize, whole: bool, v: &[i64; 16], b: i32) -> i64
+    requires { ⌜ Lies (now row) f × (j < f .order) × Numbers mostColumn (now v) × Within mostAllowance b ⌝ }
+    ensures { λ r. ⌜ r ≡ allowAt (now (row .entry)) f j whole (now (v .entry)) b ⌝ }
+{
+    raised(
+        b,
+        raise_joint(size_sum_at(row, f, j, v, b)),
+        share_of(whole, is_whole_row(row, f, j)),
+    )
+}

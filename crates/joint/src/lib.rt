@@ -1,0 +1,5 @@
+// The joint rule, one row of a rectangle at a time: the two-dimensional stages of `rectangle` are made of these.
+mod sums; // the sum of an element in two steps: over the columns, then over a row of such sums
+mod elements; // one element applied and undone
+mod allowances; // one element's allowance
+pub mod rows; // one row of elements

@@ -1,0 +1,117 @@
+// One row of elements: every number that it makes is in bound, or the row stops there.
+ghost use mathlib.Core.Path.{_≡_};
+ghost use Prim.Native.Nat.{_<_};
+ghost use lib.IntN.{_-ℤ_};
+ghost use lib.ListN.{length};
+ghost use mir.Syntax.{w64};
+ghost use mir.Val.{SFits};
+ghost use Rattle.rules.specs.Numbers.{bound, mostAllowance};
+ghost use Rattle.factor.specs.Spots.{placeOf};
+ghost use Rattle.factor.specs.Reach.{Numbers};
+ghost use Rattle.factor.specs.Lies.{Lies};
+ghost use Rattle.joint.specs.Elements.{outOf, backOf};
+ghost use Rattle.joint.specs.Sizes.{allowOf};
+ghost use Rattle.joint.specs.Went.{Went, inRow, plain};
+use crate::allowances::allow_at;
+use crate::allowances::is_whole_row;
+use crate::allowances::size_sums_at;
+use crate::elements::back_at;
+use crate::elements::out_at;
+use crate::elements::own_of;
+use crate::elements::sign_at;
+use crate::elements::sums_at;
+use crate::sums::with_sum;
+use factor::Spot;
+use factor::place_of;
+use factor::rounding::is_within;
+use rules::Block;
+
+// Row i applied: each element from the old block x.
+pub fn weigh_row(
+    col: &[i32],
+    fa: Spot,
+    row: &[i32],
+    fb: Spot,
+    i: usize,
+    x: &[i32; 256],
+    y: &mut [i32; 256],
+) -> bool
+    requires { ⌜ Lies (now col) fa × Lies (now row) fb × (i < fa .order) × Numbers bound (now x) × Numbers bound (now y) ⌝ }
+    ensures { λ ok. ⌜ Went bound (plain (outOf (now (col .entry)) fa (now (row .entry)) fb (now (x .entry)))) (inRow (fb .order) i) (fb .order) (now (y .entry)) (now (y .exit)) ok ⌝ }
+{
+    let n = fb.order;
+    let v = sums_at(col, fa, i, x, n);
+    for j in 0..n {
+        let e = i * n + j;
+        let z = out_at(row, fb, j, sign_at(col, fa, i), &v, x[e]);
+        if !is_within(z, Block::SAMPLE) {
+            return false;
+        }
+        y[e] = z as i32;
+    }
+    true
+}
+
+// By how much a number became larger.
+fn change(z: i64, y: i32) -> i64
+    requires { ⌜ SFits w64 y × SFits w64 (z -ℤ y) ⌝ }
+    ensures { λ r. ⌜ r ≡ z -ℤ y ⌝ }
+{
+    z - (y as i64)
+}
+
+// Row i undone in place, in the order of the row sheet's factor. The row's sums go along with the numbers recovered.
+pub fn unweigh_row(
+    col: &[i32],
+    fa: Spot,
+    row: &[i32],
+    fb: Spot,
+    i: usize,
+    x: &mut [i32; 256],
+) -> bool
+    requires { ⌜ Lies (now col) fa × Lies (now row) fb × (i < fa .order) × (fb .row < fb .order) × Numbers bound (now x) × (length (now x) ≡ 256) ⌝ }
+    ensures { λ ok. ⌜ Went bound (backOf (now (col .entry)) fa (now (row .entry)) fb) (λ u. inRow (fb .order) i (placeOf (fb .kind) (fb .order) (fb .row) u)) (fb .order) (now (x .entry)) (now (x .exit)) ok ⌝ }
+{
+    let n = fb.order;
+    let mut v = sums_at(col, fa, i, x, n);
+    for u in 0..n {
+        let j = place_of(fb, u);
+        let e = i * n + j;
+        let d = sign_at(col, fa, i);
+        let y = x[e];
+        let z = back_at(row, fb, j, d, &v, y);
+        if !is_within(z, Block::SAMPLE) {
+            return false;
+        }
+        x[e] = z as i32;
+        v[j] = with_sum(v[j], own_of(d), change(z, y));
+    }
+    true
+}
+
+// The allowances of row i: each from the old block x.
+pub fn allow_row(
+    col: &[i32],
+    fa: Spot,
+    row: &[i32],
+    fb: Spot,
+    i: usize,
+    x: &[i32; 256],
+    y: &mut [i32; 256],
+) -> bool
+    requires { ⌜ Lies (now col) fa × Lies (now row) fb × (i < fa .order) × Numbers mostAllowance (now x) × Numbers mostAllowance (now y) ⌝ }
+    ensures { λ ok. ⌜ Went mostAllowance (plain (allowOf (now (col .entry)) fa (now (row .entry)) fb (now (x .entry)))) (inRow (fb .order) i) (fb .order) (now (y .entry)) (now (y .exit)) ok ⌝ }
+{
+    let n = fb.order;
+    let whole = is_whole_row(col, fa, i);
+    let v = size_sums_at(col, fa, i, x, n);
+    for j in 0..n {
+        let e = i * n + j;
+        let z = allow_at(row, fb, j, whole, &v, x[e]);
+        if !is_within(z, Block::ALLOWANCE) {
+            return false;
+        }
+        y[e] = z as i32;
+    }
+    true
+}

@@ -1,0 +1,106 @@
+// The sum of a joint stage in two steps, in 64 bits: the sums V over the columns for a row of the block, and a sum over V.
+ghost use mathlib.Core.Path.{_≡_};
+ghost use Prim.Native.Nat.{_+_, _*_, _≤_, _<_};
+ghost use lib.IntN.{_+ℤ_, _-ℤ_, _*ℤ_};
+ghost use mir.Syntax.{w64};
+ghost use mir.Val.{SFits};
+ghost use Rattle.whole.specs.Diff.{Within};
+ghost use Rattle.whole.specs.Sum.{sum};
+ghost use Rattle.rules.specs.Numbers.{mostEntry, mostAllowance, at};
+ghost use Rattle.factor.specs.Reach.{Numbers};
+ghost use Rattle.joint.specs.Sums.{across, inColumn, columnSums, jointSum, mostColumn, Band, Apart, Wide};
+use factor::Row;
+
+// One term more: a weight times a number.
+fn with_number(sum: i64, a: i32, x: i32) -> i64
+    requires { ⌜ SFits w64 a × SFits w64 x × SFits w64 (a *ℤ x) × SFits w64 (sum +ℤ (a *ℤ x)) ⌝ }
+    ensures { λ s. ⌜ s ≡ sum +ℤ (a *ℤ x) ⌝ }
+{
+    sum + (a as i64) * (x as i64)
+}
+
+// One term more: a weight times a sum over a column.
+pub fn with_sum(sum: i64, a: i32, v: i64) -> i64
+    requires { ⌜ SFits w64 a × SFits w64 (a *ℤ v) × SFits w64 (sum +ℤ (a *ℤ v)) ⌝ }
+    ensures { λ s. ⌜ s ≡ sum +ℤ (a *ℤ v) ⌝ }
+{
+    sum + (a as i64) * v
+}
+
+// The m numbers of a from place p on, each times a number of x: from place k on, n apart.
+fn apart_sum(a: &[i32], p: usize, x: &[i32; 256], k: usize, n: usize, m: usize) -> i64
+    requires { ⌜ Apart (now a) p (now x) k n m ⌝ }
+    ensures { λ s. ⌜ s ≡ sum m (λ j. at (now (a .entry)) (p + j) *ℤ at (now (x .entry)) (k + j * n)) ⌝ }
+{
+    let mut sum: i64 = 0;
+    for j in 0..m {
+        sum = with_number(sum, a[p + j], x[k + j * n]);
+    }
+    sum
+}
+
+// The m numbers of a from place p on, each times one of v from place k on.
+fn wide_sum(a: &[i32], p: usize, v: &[i64; 16], k: usize, m: usize) -> i64
+    requires { ⌜ Wide (now a) p (now v) k m ⌝ }
+    ensures { λ s. ⌜ s ≡ sum m (λ j. at (now (a .entry)) (p + j) *ℤ at (now (v .entry)) (k + j)) ⌝ }
+{
+    let mut sum: i64 = 0;
+    for j in 0..m {
+        sum = with_sum(sum, a[p + j], v[k + j]);
+    }
+    sum
+}
+
+// Row m of a matrix, its diagonal own, times column k of the block.
+fn column_sum(a: &[i32], r: Row, m: usize, own: i32, x: &[i32; 256], n: usize, k: usize) -> i64
+    requires { ⌜ Band (now a) r m own × (n ≤ 16) × (k < n) × Numbers mostAllowance (now x) ⌝ }
+    ensures { λ s. ⌜ s ≡ across (now (a .entry)) r m own (inColumn (now (x .entry)) n k) ⌝ }
+{
+    let at = r.at;
+    let left = r.left;
+    let right = r.right;
+    let sum = apart_sum(a, at, x, k, n, left)
+        + apart_sum(a, at + left, x, (m + 1) * n + k, n, right);
+    with_number(sum, own, x[m * n + k])
+}
+
+// Row m of a matrix, its diagonal own, times each of the n columns of the block.
+pub fn column_sums(a: &[i32], r: Row, m: usize, own: i32, x: &[i32; 256], n: usize) -> [i64; 16]
+    requires { ⌜ Band (now a) r m own × (n ≤ 16) × Numbers mostAllowance (now x) ⌝ }
+    ensures { λ s. ⌜ s ≡ columnSums (now (a .entry)) r m own (now (x .entry)) n ⌝ }
+{
+    let mut v = [0i64; 16];
+    for k in 0..n {
+        v[k] = column_sum(a, r, m, own, x, n, k);
+    }
+    v
+}
+
+// Row m of a matrix, its diagonal own, times the sums v.
+fn whole_sum(a: &[i32], r: Row, m: usize, own: i32, v: &[i64; 16]) -> i64
+    requires { ⌜ Band (now a) r m own × Numbers mostColumn (now v) ⌝ }
+    ensures { λ s. ⌜ s ≡ across (now (a .entry)) r m own (at (now (v .entry))) ⌝ }
+{
+    let at = r.at;
+    let left = r.left;
+    let right = r.right;
+    let sum = wide_sum(a, at, v, 0, left) + wide_sum(a, at + left, v, m + 1, right);
+    with_sum(sum, own, v[m])
+}
+
+// A sum less an element's own term.
+fn without_own(sum: i64, a: i32, b: i32, x: i32) -> i64
+    requires { ⌜ SFits w64 a × SFits w64 b × SFits w64 x × SFits w64 (a *ℤ b) × SFits w64 ((a *ℤ b) *ℤ x) × SFits w64 (sum -ℤ ((a *ℤ b) *ℤ x)) ⌝ }
+    ensures { λ s. ⌜ s ≡ sum -ℤ ((a *ℤ b) *ℤ x) ⌝ }
+{
+    sum - (a as i64) * (b as i64) * (x as i64)
+}
+
+// The sum of an element: row m of a matrix, its diagonal own, times the sums v of the element's row, less the own term. The number is x,
+// and up is the diagonal of the other matrix in the element's row.
+pub fn joint_sum(a: &[i32], r: Row, m: usize, own: i32, up: i32, v: &[i64; 16], x: i32) -> i64
+    requires { ⌜ Band (now a) r m own × Within mostEntry up × Numbers mostColumn (now v) × Within mostAllowance x ⌝ }
+    ensures { λ s. ⌜ s ≡ jointSum (now (a .entry)) r m own up (now (v .entry)) x ⌝ }
+{
+    without_own(whole_sum(a, r, m, own, v), up, own, x)
+}

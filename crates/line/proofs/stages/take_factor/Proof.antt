@@ -1,0 +1,88 @@
+-- A permutation and a factor with weights are each the document's stage (`permute-is`, `weigh-is`, `allow-is`).
+use mathlib.Core.Logic.{_≢_}
+use mathlib.Core.Path.{_≡_, _∙_}
+use Rattle.rules.specs.declared.Kind.the-variants.{Permutation}
+use Rattle.rules.specs.Numbers.{count}
+use Rattle.rules.specs.Sheets.{kindOf}
+use Rattle.factor.specs.Ways.{limitOf, takenBy}
+use Rattle.factor.specs.Spots.{spotBy, spotAt}
+use Rattle.factor.specs.Reach.{numbers-fill}
+use Rattle.factor.specs.Steps.{step-moves}
+use Rattle.factor.specs.Lies.{lies, moves, kind-yes, kind-no}
+use Rattle.line.specs.Links.{permute-is, weigh-is, allow-is}
+use borrow.Author.Needs.{needs}
+use Rattle.line.proofs.stages.take_factor.Statement.{statement}
+use Rattle.line.proofs.stages.take_factor.Tie as tie
+
+yes-kind : (c : tie.Then1) → kindOf (count (c .before .before .before .args .sheet .now) (c .before .before .before .args .i)) ≡ Permutation
+yes-kind c = let a = c .before .before in kind-yes (a .before .pre .2) (a .spot-at .ensures) (c .before .is-move .ensures) (c .if1 .taken)
+
+no-kind : (c : tie.Else1) → kindOf (count (c .before .before .before .args .sheet .now) (c .before .before .before .args .i)) ≢ Permutation
+no-kind c = let a = c .before .before in kind-no (a .before .pre .2) (a .spot-at .ensures) (c .before .is-move .ensures) (c .if1 .left)
+
+spot-at-requires : tie.Need-spot-at-requires
+spot-at-requires c κs = search needs
+
+is-move-requires : tie.Need-is-move-requires
+is-move-requires c κs = search needs
+
+permute-requires : tie.Need-permute-requires
+permute-requires c κs = let a = c .before .before in let s = a .before in rw (a .spot-at .ensures) (moves (s .pre .1) (s .pre .2) (yes-kind c))
+
+returns : tie.Need-returns
+unfolding spotAt spotBy
+returns c =
+    let a = c .before .before .before in
+    let s = a .before in
+    step-moves (c .permute .ensures ∙ rw (a .spot-at .ensures)) (permute-is _ _ _ (yes-kind (c .before)) (s .args .way) (s .args .x)) (numbers-fill (s .args .n) _ (s .pre .3) (λ e. s .pre .3 .small _))
+
+enum-told : tie.Need-enum-told
+enum-told c = search needs
+
+weigh-requires : tie.Need-weigh-requires
+unfolding limitOf
+weigh-requires c κs =
+    let e = c .before .before in
+    let s = e .before .before .before in
+    rw (e .before .before .spot-at .ensures) (lies (s .pre .1) (s .pre .2) (no-kind e), rw (c .enum-told .given .1) at (s .pre .3))
+
+returns-2 : tie.Need-returns-2
+unfolding spotAt spotBy limitOf takenBy
+returns-2 c =
+    let e = c .before .before .before in
+    let a = e .before .before in
+    let s = a .before in
+    rw (c .before .enum-told .given .1) (rw (a .spot-at .ensures, weigh-is _ _ _ (s .pre .2) (no-kind e) (s .args .x)) at (c .weigh .ensures))
+
+enum-told-2 : tie.Need-enum-told-2
+enum-told-2 c = search needs
+
+allow-weights-requires : tie.Need-allow-weights-requires
+unfolding limitOf
+allow-weights-requires c κs =
+    let e = c .before .before in
+    let s = e .before .before .before in
+    rw (e .before .before .spot-at .ensures) (lies (s .pre .1) (s .pre .2) (no-kind e), rw (c .enum-told2 .given .1) at (s .pre .3))
+
+returns-3 : tie.Need-returns-3
+unfolding spotAt spotBy limitOf takenBy
+returns-3 c =
+    let e = c .before .before .before in
+    let a = e .before .before in
+    let s = a .before in
+    rw (c .before .enum-told2 .given .1) (rw (a .spot-at .ensures, allow-is _ _ _ (s .pre .2) (no-kind e) (s .args .x)) at (c .allow-weights .ensures))
+
+pub take-factor-spec : {M : Type 1} → statement M
+take-factor-spec =
+    tie.close
+    (tie.spec
+    spot-at-requires
+    is-move-requires
+    permute-requires
+    returns
+    enum-told
+    weigh-requires
+    returns-2
+    enum-told-2
+    allow-weights-requires
+    returns-3)

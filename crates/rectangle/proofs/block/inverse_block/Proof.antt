@@ -1,0 +1,65 @@
+-- Stage 0 (`inverse-out`), then the run of the block in its room (`inverse-ends`).
+use borrow.Author.Needs.{needs}
+use borrow.Author.Tests.{not-true, not-false}
+use mathlib.Core.Path.{_≡_, sym, _∙_}
+use native.Mathlib.Omega.{arith}
+use lib.ListN.{length}
+use Rattle.rules.specs.Numbers.{bound}
+use Rattle.factor.specs.Blocks.{framed-numbers}
+use Rattle.factor.specs.Ends.{inverse-ends, inverse-out}
+use Rattle.rectangle.specs.Runs.{stages-good, size-most}
+use Rattle.rectangle.proofs.block.inverse_block.Statement.{statement}
+use Rattle.rectangle.proofs.block.inverse_block.Tie as tie
+
+is-inside-requires : tie.Need-is-inside-requires
+is-inside-requires c κs = search needs
+
+refused-requires : tie.Need-refused-requires
+refused-requires c κs = search needs
+
+returns : tie.Need-returns
+returns c =
+    let i = c .before .before in
+    let s = i .before in
+    inverse-out _ (s .args .x .now) _ (s .pre .1) (sym (i .is-inside .ensures) ∙ not-true _ (c .before .if1 .taken)) (c .refused .ensures)
+
+load-requires : tie.Need-load-requires
+load-requires c κs = let s = c .before .before in let m = size-most (s .pre .0) in omega (arith, s .pre .1)
+
+undo-all-requires : tie.Need-undo-all-requires
+undo-all-requires c κs =
+    let e = c .before in
+    let s = e .before .before in
+    (s .pre .0, rw (c .load .ensures) (framed-numbers 256 bound (s .args .x .now) (sym (e .before .is-inside .ensures) ∙ not-false _ (e .if1 .left))))
+
+finish-requires : tie.Need-finish-requires
+finish-requires c κs =
+    let a = c .before .before .before .before in
+    let s = a .before .before .before .before in
+    let m = size-most (s .pre .0) in
+    let l : length (a .undo-all .result .block) ≡ 256 = search needs in
+    omega (arith, s .pre .2)
+
+same-length : tie.Need-same-length
+same-length c = search needs
+
+returns-2 : tie.Need-returns-2
+returns-2 c =
+    let f = c .before in
+    let a = f .before .before .before .before .before in
+    let s = a .before .before .before .before in
+    rw (← (inverse-ends 256 (stages-good (s .pre .0)) (s .args .x .now) (s .args .y .now) (s .pre .1) (s .pre .2)))
+    (rw (a .undo-all .ensures, a .before .load .ensures) at (f .finish .ensures))
+
+pub inverse-block-spec : {M : Type 1} → statement M
+inverse-block-spec =
+    tie.close
+    (tie.spec
+    is-inside-requires
+    refused-requires
+    returns
+    load-requires
+    undo-all-requires
+    finish-requires
+    same-length
+    returns-2)
