@@ -227,6 +227,96 @@ static void both(const char *recipe, const struct sheet *col, const struct sheet
 	free(z);
 }
 
+// ---- strips
+
+struct strip_call {
+	line_strip *line;
+	block_strip *block;
+};
+
+static struct answer ask_strip(struct strip_call c, const struct sheet *col, const struct sheet *row, const int32_t *x, int32_t *y,
+			       size_t all, uint8_t *bytes, size_t many)
+{
+	if (c.line)
+		return c.line(col->at, col->len, x, all, y, all, bytes, many);
+	return c.block(col->at, col->len, row->at, row->len, x, all, y, all, bytes, many);
+}
+
+// ns for each block of the best round.
+static double strip_time(struct strip_call c, const struct sheet *col, const struct sheet *row, const int32_t *x, int32_t *y, size_t all,
+			 uint8_t *bytes, size_t many, double best)
+{
+	double start = seconds();
+	ask_strip(c, col, row, x, y, all, bytes, many);
+	double ns = (seconds() - start) * 1e9 / (double)many;
+	return ns < best ? ns : best;
+}
+
+// A strip of so many blocks, one in fifty of them beyond the bound: outputs and bytes are held to the twin's, then both are timed.
+static void strips(const char *recipe, const char *direction, const struct sheet *col, const struct sheet *row, struct strip_call library,
+		   struct strip_call twin, size_t many, int rounds)
+{
+	size_t size = (size_t)col->at[0] * (row ? (size_t)row->at[0] : 1), all = many * size;
+	int32_t *x = malloc(all * sizeof *x), *y = malloc(all * sizeof *y), *z = malloc(all * sizeof *z);
+	uint8_t *b = malloc(many), *d = malloc(many);
+	if (!x || !y || !z || !b || !d)
+		exit(1);
+	for (size_t k = 0; k < all; k++)
+		x[k] = between(-4096, 4095);
+	for (size_t k = 0; k < many; k += 50)
+		x[k * size + (size_t)between(0, (int32_t)size - 1)] = SAMPLE + 1;
+	memset(y, 0x5a, all * sizeof *y);
+	memset(z, 0x5a, all * sizeof *z);
+	struct answer a = ask_strip(library, col, row, x, y, all, b, many), c = ask_strip(twin, col, row, x, z, all, d, many);
+	if (a.number || c.number || memcmp(y, z, all * sizeof *y) || memcmp(b, d, many)) {
+		printf("%s %s: a strip of %zu differs\n", recipe, direction, many);
+		exit(1);
+	}
+	double s = 1e30, t = 1e30;
+	for (int r = 0; r < rounds; r++) {
+		s = strip_time(library, col, row, x, y, all, b, many, s);
+		t = strip_time(twin, col, row, x, z, all, d, many, t);
+	}
+	printf("%-26s %7zu %-8s %9.1f %10.1f %8.2f\n", recipe, many, direction, s, t, s / t);
+	fflush(stdout);
+	free(x);
+	free(y);
+	free(z);
+	free(b);
+	free(d);
+}
+
+// Both directions, at two lengths: the time for a block must not grow.
+static void all_strips(const char *recipe, const struct sheet *col, const struct sheet *row, const struct strip_call calls[4], int rounds)
+{
+	for (size_t many = 1000; many <= 10000; many *= 10) {
+		strips(recipe, "forward", col, row, calls[0], calls[1], many, rounds);
+		strips(recipe, "inverse", col, row, calls[2], calls[3], many, rounds);
+	}
+}
+
+static void time_strips(int rounds)
+{
+	static struct sheet a, b;
+	static const struct strip_call line[4] = {
+		{bench_strip_forward, 0}, {twin_strip_forward, 0}, {bench_strip_inverse, 0}, {twin_strip_inverse, 0}};
+	static const struct strip_call block[4] = {{0, bench_rectangle_strip_forward},
+						   {0, twin2_strip_forward},
+						   {0, bench_rectangle_strip_inverse},
+						   {0, twin2_strip_inverse}};
+	printf("\n%-26s %7s %-8s %9s %10s %8s\n", "strip", "blocks", "", "lib. ns", "C ns", "ratio");
+	a.len = 45;
+	memcpy(a.at, built_in, sizeof built_in);
+	all_strips("line of 4, built-in", &a, NULL, line, rounds);
+	a = made(16, "23412341", 2048);
+	all_strips("line of 16, 8 factors", &a, NULL, line, rounds);
+	for (int32_t n = 8; n <= 16; n += 8) {
+		a = made(n, "12342", 1024);
+		b = made(n, "12342", 1024);
+		all_strips(n == 8 ? "8 by 8, 5 factors" : "16 by 16, 5 factors", &a, &b, block, rounds);
+	}
+}
+
 int main(int argc, char **argv)
 {
 	int rounds = argc > 1 ? atoi(argv[1]) : 25;
@@ -252,5 +342,6 @@ int main(int argc, char **argv)
 	(void)b;
 #endif
 	printf("%zu answers and outputs equal, %zu of them refusals\n", asked, refused);
+	time_strips(rounds < 9 ? rounds : 9);
 	return 0;
 }

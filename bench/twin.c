@@ -68,8 +68,8 @@ struct answer twin_check(const int32_t *s, size_t len, uint32_t side)
 	return refused(0, 0, 0);
 }
 
-// 1 to 9, then 10, then the bound of stage 0.
-static struct answer check_run(const int32_t *s, size_t sn, const int32_t *x, size_t xn, size_t yn)
+// 1 to 9, then 10.
+static struct answer check_run(const int32_t *s, size_t sn, size_t xn, size_t yn)
 {
 	struct answer a = twin_check(s, sn, 0);
 	if (a.number)
@@ -78,10 +78,16 @@ static struct answer check_run(const int32_t *s, size_t sn, const int32_t *x, si
 		return refused(10, 0, 0);
 	if (yn != (size_t)s[0])
 		return refused(10, 1, 0);
-	for (size_t k = 0; k < xn; k++)
-		if (x[k] < -SAMPLE || x[k] > SAMPLE)
-			return refused(11, 0, 0);
 	return refused(0, 0, 0);
+}
+
+// The bound of stage 0.
+static bool is_inside(const int32_t *x, size_t n)
+{
+	for (size_t k = 0; k < n; k++)
+		if (x[k] < -SAMPLE || x[k] > SAMPLE)
+			return false;
+	return true;
 }
 
 // How many numbers the factor at f has.
@@ -194,12 +200,12 @@ static const int32_t *start_of(const int32_t *s, size_t n, size_t many)
 	return f;
 }
 
-struct answer twin_forward(const int32_t *s, size_t sn, const int32_t *x, size_t xn, int32_t *y, size_t yn)
+// One block of a checked sheet.
+static struct answer forward_block(const int32_t *s, const int32_t *x, int32_t *y)
 {
-	struct answer a = check_run(s, sn, x, xn, yn);
-	if (a.number)
-		return a;
 	size_t n = (size_t)s[0], many = (size_t)s[1];
+	if (!is_inside(x, n))
+		return refused(11, 0, 0);
 	int32_t v[2][ORDER] = {0}; // this stage and the next, by turns
 	memcpy(v[0], x, n * sizeof *x);
 	const int32_t *f = s + 2;
@@ -212,12 +218,11 @@ struct answer twin_forward(const int32_t *s, size_t sn, const int32_t *x, size_t
 	return refused(0, 0, 0);
 }
 
-struct answer twin_inverse(const int32_t *s, size_t sn, const int32_t *x, size_t xn, int32_t *y, size_t yn)
+static struct answer inverse_block(const int32_t *s, const int32_t *x, int32_t *y)
 {
-	struct answer a = check_run(s, sn, x, xn, yn);
-	if (a.number)
-		return a;
 	size_t n = (size_t)s[0], many = (size_t)s[1];
+	if (!is_inside(x, n))
+		return refused(11, 0, 0);
 	int32_t v[ORDER] = {0};
 	memcpy(v, x, n * sizeof *x);
 	for (size_t t = 0; t < many; t++)
@@ -225,4 +230,52 @@ struct answer twin_inverse(const int32_t *s, size_t sn, const int32_t *x, size_t
 			return refused(11, 0, t + 1);
 	memcpy(y, v, n * sizeof *y);
 	return refused(0, 0, 0);
+}
+
+struct answer twin_forward(const int32_t *s, size_t sn, const int32_t *x, size_t xn, int32_t *y, size_t yn)
+{
+	struct answer a = check_run(s, sn, xn, yn);
+	return a.number ? a : forward_block(s, x, y);
+}
+
+struct answer twin_inverse(const int32_t *s, size_t sn, const int32_t *x, size_t xn, int32_t *y, size_t yn)
+{
+	struct answer a = check_run(s, sn, xn, yn);
+	return a.number ? a : inverse_block(s, x, y);
+}
+
+// ---- strips: the sheet is checked once
+
+struct answer twin_lengths(size_t n, size_t xn, size_t yn, size_t bn)
+{
+	if (xn % n)
+		return refused(10, 0, 0);
+	if (yn != xn || bn != xn / n)
+		return refused(10, 1, 0);
+	return refused(0, 0, 0);
+}
+
+static inline struct answer strip(bool back, const int32_t *s, size_t sn, const int32_t *x, size_t xn, int32_t *y, size_t yn,
+				  uint8_t *bytes, size_t bn)
+{
+	struct answer a = twin_check(s, sn, 0);
+	if (a.number)
+		return a;
+	size_t n = (size_t)s[0];
+	a = twin_lengths(n, xn, yn, bn);
+	if (a.number)
+		return a;
+	for (size_t k = 0; k < bn; k++)
+		bytes[k] = (uint8_t)(back ? inverse_block(s, x + k * n, y + k * n) : forward_block(s, x + k * n, y + k * n)).number;
+	return a;
+}
+
+struct answer twin_strip_forward(const int32_t *s, size_t sn, const int32_t *x, size_t xn, int32_t *y, size_t yn, uint8_t *bytes, size_t bn)
+{
+	return strip(false, s, sn, x, xn, y, yn, bytes, bn);
+}
+
+struct answer twin_strip_inverse(const int32_t *s, size_t sn, const int32_t *x, size_t xn, int32_t *y, size_t yn, uint8_t *bytes, size_t bn)
+{
+	return strip(true, s, sn, x, xn, y, yn, bytes, bn);
 }

@@ -65,8 +65,8 @@ static size_t place_of(const struct spot *f, size_t t)
 	}
 }
 
-// 1 to 9 for both sheets, 12, 10, and the bound of stage 0.
-static struct answer check_run(const int32_t *col, size_t cn, const int32_t *row, size_t rn, const int32_t *x, size_t xn, size_t yn)
+// 1 to 9 for both sheets, and 12.
+static struct answer check_pair(const int32_t *col, size_t cn, const int32_t *row, size_t rn)
 {
 	struct answer a = twin_check(col, cn, 0);
 	if (a.number)
@@ -84,14 +84,30 @@ static struct answer check_run(const int32_t *col, size_t cn, const int32_t *row
 		f += numbers(f, n);
 		g += numbers(g, p);
 	}
-	if (xn != n * p)
-		return refused(10, 0, 0);
-	if (yn != n * p)
-		return refused(10, 1, 0);
-	for (size_t k = 0; k < xn; k++)
-		if (x[k] < -SAMPLE || x[k] > SAMPLE)
-			return refused(11, 0, 0);
 	return refused(0, 0, 0);
+}
+
+// And 10.
+static struct answer check_run(const int32_t *col, size_t cn, const int32_t *row, size_t rn, size_t xn, size_t yn)
+{
+	struct answer a = check_pair(col, cn, row, rn);
+	if (a.number)
+		return a;
+	size_t size = (size_t)col[0] * (size_t)row[0];
+	if (xn != size)
+		return refused(10, 0, 0);
+	if (yn != size)
+		return refused(10, 1, 0);
+	return refused(0, 0, 0);
+}
+
+// The bound of stage 0.
+static bool is_inside(const int32_t *x, size_t n)
+{
+	for (size_t k = 0; k < n; k++)
+		if (x[k] < -SAMPLE || x[k] > SAMPLE)
+			return false;
+	return true;
 }
 
 // ---- separable sums
@@ -235,15 +251,14 @@ static void unpermute(const struct spot *a, const struct spot *b, int32_t *x)
 			x[(size_t)a->signs[i] * b->n + (size_t)b->signs[j]] = y[i * b->n + j];
 }
 
-static inline struct answer forward(bool plain, const int32_t *col, size_t cn, const int32_t *row, size_t rn, const int32_t *x,
-				    size_t xn, int32_t *y, size_t yn)
+// One block of a checked pair.
+static inline struct answer forward_block(bool plain, const int32_t *col, const int32_t *row, const int32_t *x, int32_t *y)
 {
-	struct answer c = check_run(col, cn, row, rn, x, xn, yn);
-	if (c.number)
-		return c;
-	size_t many = (size_t)col[1];
+	size_t many = (size_t)col[1], size = (size_t)col[0] * (size_t)row[0];
+	if (!is_inside(x, size))
+		return refused(11, 0, 0);
 	int32_t v[2][ORDER * ORDER]; // this stage and the next, by turns
-	memcpy(v[0], x, xn * sizeof *x);
+	memcpy(v[0], x, size * sizeof *x);
 	const int32_t *f = col + 2, *g = row + 2;
 	for (size_t t = 0; t < many; t++) {
 		struct spot a = spot_at(f, (size_t)col[0]), b = spot_at(g, (size_t)row[0]);
@@ -259,7 +274,7 @@ static inline struct answer forward(bool plain, const int32_t *col, size_t cn, c
 		f += numbers(f, a.n);
 		g += numbers(g, b.n);
 	}
-	memcpy(y, v[many % 2], yn * sizeof *y);
+	memcpy(y, v[many % 2], size * sizeof *y);
 	return refused(0, 0, 0);
 }
 
@@ -273,15 +288,13 @@ static struct spot spot_before(const int32_t *s, size_t t)
 	return spot_at(f, n);
 }
 
-static inline struct answer inverse(bool plain, const int32_t *col, size_t cn, const int32_t *row, size_t rn, const int32_t *x,
-				    size_t xn, int32_t *y, size_t yn)
+static inline struct answer inverse_block(bool plain, const int32_t *col, const int32_t *row, const int32_t *x, int32_t *y)
 {
-	struct answer c = check_run(col, cn, row, rn, x, xn, yn);
-	if (c.number)
-		return c;
-	size_t many = (size_t)col[1];
+	size_t many = (size_t)col[1], size = (size_t)col[0] * (size_t)row[0];
+	if (!is_inside(x, size))
+		return refused(11, 0, 0);
 	int32_t v[ORDER * ORDER];
-	memcpy(v, x, xn * sizeof *x);
+	memcpy(v, x, size * sizeof *x);
 	for (size_t t = 0; t < many; t++) {
 		struct spot a = spot_before(col, many - t), b = spot_before(row, many - t);
 		bool ok = true;
@@ -292,26 +305,62 @@ static inline struct answer inverse(bool plain, const int32_t *col, size_t cn, c
 		if (!ok)
 			return refused(11, 0, t + 1);
 	}
-	memcpy(y, v, yn * sizeof *y);
+	memcpy(y, v, size * sizeof *y);
 	return refused(0, 0, 0);
 }
 
 struct answer twin2_forward(const int32_t *col, size_t cn, const int32_t *row, size_t rn, const int32_t *x, size_t xn, int32_t *y, size_t yn)
 {
-	return forward(false, col, cn, row, rn, x, xn, y, yn);
+	struct answer a = check_run(col, cn, row, rn, xn, yn);
+	return a.number ? a : forward_block(false, col, row, x, y);
 }
 
 struct answer twin2_inverse(const int32_t *col, size_t cn, const int32_t *row, size_t rn, const int32_t *x, size_t xn, int32_t *y, size_t yn)
 {
-	return inverse(false, col, cn, row, rn, x, xn, y, yn);
+	struct answer a = check_run(col, cn, row, rn, xn, yn);
+	return a.number ? a : inverse_block(false, col, row, x, y);
 }
 
 struct answer plain2_forward(const int32_t *col, size_t cn, const int32_t *row, size_t rn, const int32_t *x, size_t xn, int32_t *y, size_t yn)
 {
-	return forward(true, col, cn, row, rn, x, xn, y, yn);
+	struct answer a = check_run(col, cn, row, rn, xn, yn);
+	return a.number ? a : forward_block(true, col, row, x, y);
 }
 
 struct answer plain2_inverse(const int32_t *col, size_t cn, const int32_t *row, size_t rn, const int32_t *x, size_t xn, int32_t *y, size_t yn)
 {
-	return inverse(true, col, cn, row, rn, x, xn, y, yn);
+	struct answer a = check_run(col, cn, row, rn, xn, yn);
+	return a.number ? a : inverse_block(true, col, row, x, y);
+}
+
+// ---- strips: the sheets are checked once
+
+static inline struct answer strip(bool back, const int32_t *col, size_t cn, const int32_t *row, size_t rn, const int32_t *x, size_t xn,
+				  int32_t *y, size_t yn, uint8_t *bytes, size_t bn)
+{
+	struct answer a = check_pair(col, cn, row, rn);
+	if (a.number)
+		return a;
+	size_t n = (size_t)col[0] * (size_t)row[0];
+	a = twin_lengths(n, xn, yn, bn);
+	if (a.number)
+		return a;
+	for (size_t k = 0; k < bn; k++) {
+		const int32_t *from = x + k * n;
+		int32_t *to = y + k * n;
+		bytes[k] = (uint8_t)(back ? inverse_block(false, col, row, from, to) : forward_block(false, col, row, from, to)).number;
+	}
+	return a;
+}
+
+struct answer twin2_strip_forward(const int32_t *col, size_t cn, const int32_t *row, size_t rn, const int32_t *x, size_t xn, int32_t *y,
+				  size_t yn, uint8_t *bytes, size_t bn)
+{
+	return strip(false, col, cn, row, rn, x, xn, y, yn, bytes, bn);
+}
+
+struct answer twin2_strip_inverse(const int32_t *col, size_t cn, const int32_t *row, size_t rn, const int32_t *x, size_t xn, int32_t *y,
+				  size_t yn, uint8_t *bytes, size_t bn)
+{
+	return strip(true, col, cn, row, rn, x, xn, y, yn, bytes, bn);
 }

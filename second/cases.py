@@ -315,6 +315,70 @@ def case_joint_allowance(rng, longest):
 
 
 # ---------------------------------------------------------------------------
+# Strips: X is the count of bytes and the input, Y the output and the bytes
+
+
+def strip_input(rng, size, make_block, blocks):
+    """Blocks end to end; some a number longer or shorter."""
+    x = [number for _ in range(blocks) for number in make_block(size)]
+    if chance(rng, 0.08):
+        return x + generate.some_block(rng, rng.randint(1, size + 1))
+    return x[:-1] if x and chance(rng, 0.03) else x
+
+
+def strip_case(rng, col, row, x, size, run):
+    """The lent slices are right in most cases."""
+    wrong = [0, -1, 1, size, -size]
+    y_length = max(0, len(x) + (rng.choice(wrong) if chance(rng, 0.06) else 0))
+    marks = max(0, len(x) // size + (rng.choice(wrong) if chance(rng, 0.06) else 0))
+    out, before = generate.lent(rng, y_length), [rng.randrange(256) for _ in range(marks)]
+    answer, after, numbers = run(x, out, before)
+    return Case(col, row, [marks] + x, out + before, answer, after + numbers)
+
+
+def strip_blocks(rng, longest, size):
+    """How many blocks: none, a few, or, once, as many as the room of a case holds."""
+    return 4096 // size if longest else rng.choice([0, 1, 1, 2, 3, rng.randint(2, max(2, 96 // size))])
+
+
+def case_line_strip(rng, longest, make_input, call):
+    draft = generate.some_draft(rng) if longest else line_draft(rng, False)
+    sheet = numbers_of(draft)
+    x = strip_input(rng, sheet[0], lambda size: make_input(rng, sheet, size), strip_blocks(rng, longest, sheet[0]))
+    size = sheet[0]
+    sheet = sheet if longest else numbers_of(generate.maybe_damage(rng, draft, RUN_DAMAGE))
+    return strip_case(rng, sheet, [], x, size, lambda v, w, marks: model.line_strip(sheet, v, w, marks, call))
+
+
+def case_joint_strip(rng, longest, make_input, call):
+    column, row = generate.matching_pair(rng) if longest else joint_drafts(rng, False)
+    col_sheet, row_sheet = numbers_of(column), numbers_of(row)
+    size = col_sheet[0] * row_sheet[0]
+    x = strip_input(rng, size, lambda length: make_input(rng, col_sheet, row_sheet, length), strip_blocks(rng, longest, size))
+    if not longest and chance(rng, RUN_DAMAGE):
+        column, row = generate.damage_pair(rng, column, row)
+        col_sheet, row_sheet = numbers_of(column), numbers_of(row)
+    return strip_case(rng, col_sheet, row_sheet, x, size,
+                      lambda v, w, marks: model.joint_strip(col_sheet, row_sheet, v, w, marks, call))
+
+
+def case_line_strip_forward(rng, longest):
+    return case_line_strip(rng, longest, forward_input, model.line_forward)
+
+
+def case_line_strip_inverse(rng, longest):
+    return case_line_strip(rng, longest, inverse_input, model.line_inverse)
+
+
+def case_joint_strip_forward(rng, longest):
+    return case_joint_strip(rng, longest, joint_forward_input, model.joint_forward)
+
+
+def case_joint_strip_inverse(rng, longest):
+    return case_joint_strip(rng, longest, joint_inverse_input, model.joint_inverse)
+
+
+# ---------------------------------------------------------------------------
 # Program
 
 
@@ -507,6 +571,10 @@ CALLS = {
     "line-law": (14, case_line_law),
     "joint-law": (15, case_joint_law),
     "first-printing": (16, case_first_printing),
+    "line-strip-forward": (17, case_line_strip_forward),
+    "line-strip-inverse": (18, case_line_strip_inverse),
+    "joint-strip-forward": (19, case_joint_strip_forward),
+    "joint-strip-inverse": (20, case_joint_strip_inverse),
     "line-cut": (7, case_line_cut),
     "joint-cut": (10, case_joint_cut),
 }

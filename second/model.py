@@ -602,6 +602,43 @@ def joint_allowance(col, row, out):
 
 
 # ---------------------------------------------------------------------------
+# Request R-1: whole strips
+
+
+def strip(recipes, call, x, out, marks):
+    """Each block's single call, one after another: the answer, the output, the bytes.
+
+    recipes() gives the orders or refuses by 1 to 9 or 12; call is the single
+    call on a block and its part of the output."""
+    try:
+        size = 1
+        for order in recipes():
+            size *= order
+        if len(x) % size:
+            raise Refused(10, 0, 0)
+        if len(out) != len(x) or len(marks) != len(x) // size:
+            raise Refused(10, 0, 1)
+    except Refused as refused:
+        return refused.answer, list(out), list(marks)
+    after, numbers = [], []
+    for start in range(0, len(x), size):
+        answer, part = call(x[start:start + size], out[start:start + size])
+        after += part
+        numbers.append(answer[0])
+    return accepted(), after, numbers
+
+
+def line_strip(sheet, x, out, marks, call):
+    """call: line_forward or line_inverse."""
+    return strip(lambda: [recipe_of(sheet).order], lambda v, w: call(sheet, v, w), x, out, marks)
+
+
+def joint_strip(col, row, x, out, marks, call):
+    """call: joint_forward or joint_inverse."""
+    return strip(lambda: [recipe.order for recipe in pair_of(col, row)], lambda v, w: call(col, row, v, w), x, out, marks)
+
+
+# ---------------------------------------------------------------------------
 # Built-in recipe
 
 # Request R-2: U lost a sign in print, row 1, column 3.

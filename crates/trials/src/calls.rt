@@ -27,7 +27,7 @@ fn write(a: &[i32], y: &mut [i32]) -> Answer {
     }
     let mut room = load_bytes(y);
     let r = recipe::write(a, &mut room[..n]);
-    store_bytes(&room, y);
+    store_bytes(&room, y, 0);
     r
 }
 
@@ -40,8 +40,51 @@ fn program(a: &[i32], y: &mut [i32]) -> Answer {
     let bytes = load_bytes(a);
     let mut text = blank_text();
     let m = session::text_of(&bytes[..n], &mut text);
-    store_bytes(&text, y);
+    store_bytes(&text, y, 0);
     Answer::counted(m as u64)
+}
+
+// The strips by their numbers.
+fn strip_by(
+    call: usize,
+    a: &[i32],
+    b: &[i32],
+    x: &[i32],
+    y: &mut [i32],
+    bytes: &mut [u8],
+) -> Answer {
+    if call == 17 {
+        return strip::line_forward(a, x, y, bytes);
+    }
+    if call == 18 {
+        return strip::line_inverse(a, x, y, bytes);
+    }
+    if call == 19 {
+        return strip::joint_forward(a, b, x, y, bytes);
+    }
+    if call == 20 {
+        return strip::joint_inverse(a, b, x, y, bytes);
+    }
+    unknown()
+}
+
+// A strip: X is the count of bytes and then the input, Y the output and then the bytes, one to a word.
+fn strip(call: usize, a: &[i32], b: &[i32], x: &[i32], y: &mut [i32]) -> Answer {
+    if x.len() == 0 {
+        return unknown();
+    }
+    let many = natural(x[0]);
+    if many > ROOM {
+        return unknown();
+    }
+    if many > y.len() {
+        return unknown();
+    }
+    let n = y.len() - many;
+    let mut bytes = load_bytes(&y[n..]);
+    let r = strip_by(call, a, b, &x[1..], &mut y[..n], &mut bytes[..many]);
+    store_bytes(&bytes, y, n);
+    r
 }
 
 // Room for a text.
@@ -102,6 +145,9 @@ pub fn answer(call: usize, a: &[i32], b: &[i32], x: &[i32], y: &mut [i32]) -> An
     }
     if call == 16 {
         return recipe::first_printing(y);
+    }
+    if call > 16 {
+        return strip(call, a, b, x, y);
     }
     unknown()
 }

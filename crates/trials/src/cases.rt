@@ -137,7 +137,7 @@ fn next_case() -> Verdict {
 }
 
 // Runs case after case, and counts.
-pub fn run_all(counts: &mut [u64; 51]) -> End {
+pub fn run_all(counts: &mut [u64; 63]) -> End {
     for case in 0..MANY {
         let v = next_case();
         if v.call == 0 {

@@ -8,7 +8,7 @@ mod cases; // one case after another
 mod tally; // how many cases of each call agreed, and the lines that say it
 
 fn main() {
-    let mut counts = [0u64; 51];
+    let mut counts = [0u64; 63];
     let end = cases::run_all(&mut counts);
     tally::print_all(&counts);
     tally::print_end(end.cases, end.whole);

@@ -91,11 +91,14 @@ pub fn load_bytes(w: &[i32]) -> [u8; ROOM]
     room
 }
 
-// The bytes at the front of a room, one to a word.
-pub fn store_bytes(room: &[u8; ROOM], w: &mut [i32]) {
+// The bytes at the front of a room, one to a word, from a place on.
+pub fn store_bytes(room: &[u8; ROOM], w: &mut [i32], from: usize) {
     let n = w.len();
-    for k in 0..n {
-        w[k] = word_at(room, k);
+    if from > n {
+        return;
+    }
+    for k in from..n {
+        w[k] = word_at(room, k - from);
     }
 }
 

@@ -1,11 +1,11 @@
 // How many cases of each call agreed. Three counts for each call: the cases that agree, those that differ, the first that differs.
 ghost use Prim.Native.Nat.{_≤_};
 
-const CALLS: usize = 16;
+const CALLS: usize = 20;
 
 // Where a call's counts stand. A number that is no call's counts as 0.
 fn slot(call: usize) -> usize
-    ensures { λ r. ⌜ r ≤ 48 ⌝ }
+    ensures { λ r. ⌜ r ≤ 60 ⌝ }
 {
     if call > CALLS {
         return 0;
@@ -14,7 +14,7 @@ fn slot(call: usize) -> usize
 }
 
 // One case more.
-pub fn note(counts: &mut [u64; 51], call: usize, case: u64, agrees: bool) {
+pub fn note(counts: &mut [u64; 63], call: usize, case: u64, agrees: bool) {
     let i = slot(call);
     if agrees {
         counts[i] = std::num::wrapping_add_u64(counts[i], 1);
@@ -45,6 +45,10 @@ fn print_name(call: usize) -> bool {
         14 => io::write_all(1, b"line-law"),
         15 => io::write_all(1, b"joint-law"),
         16 => io::write_all(1, b"first-printing"),
+        17 => io::write_all(1, b"line-strip-forward"),
+        18 => io::write_all(1, b"line-strip-inverse"),
+        19 => io::write_all(1, b"joint-strip-forward"),
+        20 => io::write_all(1, b"joint-strip-inverse"),
         _ => io::write_all(1, b"no call"),
     }
 }
@@ -67,7 +71,7 @@ fn print_line(call: usize, agree: u64, differ: u64, first: u64) {
 }
 
 // A line for each call that had a case.
-pub fn print_all(counts: &[u64; 51]) {
+pub fn print_all(counts: &[u64; 63]) {
     for call in 0..CALLS + 1 {
         let i = slot(call);
         print_line(call, counts[i], counts[i + 1], counts[i + 2]);
