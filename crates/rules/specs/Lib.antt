@@ -6,6 +6,7 @@ pub mod Shapes
 pub mod Recipes
 pub mod Answers
 pub mod Calls
+pub mod Strips
 pub mod Figures
 pub mod Cosine
 pub mod Laws
