@@ -10,3 +10,5 @@ pub mod Plans
 pub mod Promises
 pub mod CutLaw
 pub mod Returned
+pub mod Strips
+pub mod ReturnedStrips

@@ -35,14 +35,14 @@ unfolding joint
 joint-plan c r = record { good = λ h. let a = pair-read c r h in joints-good (sheets-match (a .0) (a .1) (a .2)) }
 
 -- ---- what is asked after the sheets
-sized-fine : (side n : ℕ) (v : List ℤ) → sized side n v .number ≡ 0 → length v ≡ n
+pub sized-fine : {A : Type 0} (side n : ℕ) (v : List A) → sized side n v .number ≡ 0 → length v ≡ n
 sized-fine side n v h = split (ℕ-discrete (length v) n)
   where
     split : Dec (length v ≡ n) → length v ≡ n
     split (yes e) = e
     split (no d) = let x : _≡_ {A = ℕ} 10 0 = rw (ne-eqb (length v) n d) at h in absurd (omega arith)
 
-sized-is : (side n : ℕ) (v : List ℤ) → length v ≡ n → sized side n v ≡ accepted
+pub sized-is : {A : Type 0} (side n : ℕ) (v : List A) → length v ≡ n → sized side n v ≡ accepted
 sized-is side n v h = rw (eq-eqb (length v) n h)
 
 ran-fine : (k : ℕ) (ran : Ran) (y : List ℤ) → ranAnswer (suc k) ran .number ≡ 0 → ran ≡ done (ranMemory ran y)

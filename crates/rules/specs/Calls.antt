@@ -85,7 +85,7 @@ joint c r = record {
 }
 
 -- 10: "slice length is not n, or n1·n2"; "Side is 1 .. for the output"
-abbrev pub sized : ℕ → ℕ → List ℤ → Answer
+abbrev pub sized : {A : Type 0} → ℕ → ℕ → List A → Answer
 sized side n v = cond (eqb (length v) n) accepted (refused 10 side 0)
 
 -- 11 and 13, at the first stage

@@ -6,5 +6,6 @@ pub mod Shapes
 pub mod Recipes
 pub mod Answers
 pub mod Calls
+pub mod Strips
 pub mod Figures
 pub mod Laws
