@@ -17,7 +17,7 @@ use sheet::places::count_at;
 mod steps; // what a factor does to the elements
 mod stages; // one stage: the factor at a place of the sheet
 mod runs; // all stages of a sheet
-mod block; // a run of one block over a checked sheet
+pub mod block; // a run of one block over a checked sheet
 
 // 1 to 9, then 10 for the input and for the output.
 fn check_run(s: &[i32], x: usize, y: usize) -> Answer

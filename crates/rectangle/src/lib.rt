@@ -23,7 +23,7 @@ mod steps; // a pair of factors with weights
 mod moves; // a pair of permutations
 mod stages; // one stage: the factors at two places of the sheets
 mod runs; // all stages of two sheets
-mod block; // a run of one block over two checked sheets
+pub mod block; // a run of one block over two checked sheets
 
 // 1 to 9 and 12, then 10 for the input and for the output.
 fn check_run(col: &[i32], row: &[i32], x: usize, y: usize) -> Answer

@@ -1,0 +1,91 @@
+-- The checks in turn (`sheets-first`, `lengths-then`), then all blocks (`strip-goes`).
+use mathlib.Core.List.{List}
+use mathlib.Core.Path.{_≡_, sym, ap, _∙_}
+use lib.IntN.{ℤ}
+use Rattle.rules.specs.declared.Answer.{Answer}
+use Rattle.rules.specs.Calls.{Reply, Plan}
+use Rattle.rules.specs.Strips.{stripAnswer}
+use Rattle.laws.specs.Strips.{strip-fits}
+use Rattle.strip.specs.Plans.{planOf, callOf, some-numbers}
+use Rattle.strip.specs.Lengths.{sheets-first, lengths-then, strip-stops, strip-goes}
+use borrow.Author.Needs.{needs}
+use Rattle.strip.proofs.runs.run_strip.Statement.{statement}
+use Rattle.strip.proofs.runs.run_strip.Tie as tie
+
+abbrev plan : tie.Start → Plan
+plan s = planOf (s .args .shape) (s .args .col .now) (s .args .row .now)
+
+abbrev single : tie.Start → List ℤ → List ℤ → Reply ℤ
+single s = callOf (s .args .direction) (plan s)
+
+-- the sheets were checked
+fine : (c : tie.Else1) → plan (c .before .before .before .before) .sheets .number ≡ 0
+fine c = ap (λ (a : Answer). a .number) (sym (c .before .before .check-sheets .ensures)) ∙ c .if1 .left
+
+-- what the checks answer is the strip's answer
+answer :
+    (c : tie.After-check-strip) →
+    let s = c .before .before .before .before .before .before in
+    c .check-strip .result ≡ stripAnswer (plan s) (s .args .x .now) (s .args .y .now) (s .args .bytes .now)
+answer c =
+    let s = c .before .before .before .before .before .before in
+    lengths-then (plan s) (s .args .x .now) (s .args .y .now) (s .args .bytes .now) (fine (c .before .before)) (rw (c .before .size-of .ensures) at (c .check-strip .ensures))
+
+check-sheets-requires : tie.Need-check-sheets-requires
+check-sheets-requires c κs = search needs
+
+returns : tie.Need-returns
+returns c =
+    let a = c .before .before in
+    let s = a .before .before in
+    strip-stops (plan s) (s .args .x .now) (s .args .y .now) (s .args .bytes .now) (single s)
+    (sheets-first (plan s) (s .args .x .now) (s .args .y .now) (s .args .bytes .now) (a .check-sheets .ensures) (c .if1 .taken)) (c .if1 .taken)
+
+size-of-requires : tie.Need-size-of-requires
+size-of-requires c κs = fine c
+
+check-strip-requires : tie.Need-check-strip-requires
+check-strip-requires c κs = rw (c .size-of .ensures) (some-numbers _ _ _ (fine (c .before)))
+
+returns-2 : tie.Need-returns-2
+returns-2 c =
+    let k = c .before .before in
+    let s = k .before .before .before .before .before .before in
+    strip-stops (plan s) (s .args .x .now) (s .args .y .now) (s .args .bytes .now) (single s) (answer k) (c .if2 .taken)
+
+run-blocks-requires : tie.Need-run-blocks-requires
+run-blocks-requires c κs =
+    let e = c .before .before in
+    let k = e .before .before in
+    let z = k .before in
+    let s = z .before .before .before .before .before in
+    let f = strip-fits (plan s) (s .args .x .now) (s .args .y .now) (s .args .bytes .now) (ap (λ (a : Answer). a .number) (sym (answer k)) ∙ e .if2 .left) in
+    (f .sheets, z .size-of .ensures, rw (z .size-of .ensures) (f .input), rw (z .size-of .ensures) (f .output))
+
+same-length : tie.Need-same-length
+same-length c = search needs
+
+same-length-2 : tie.Need-same-length-2
+same-length-2 c = search needs
+
+returns-3 : tie.Need-returns-3
+returns-3 c =
+    let r = c .before .before .before in
+    let e = r .before .before .before in
+    let k = e .before .before in
+    let s = k .before .before .before .before .before .before in
+    strip-goes (plan s) (s .args .x .now) (s .args .y .now) (s .args .bytes .now) (single s) (answer k) (e .if2 .left) (r .run-blocks .ensures)
+
+pub run-strip-spec : {M : Type 1} → statement M
+run-strip-spec =
+    tie.close
+    (tie.spec
+    check-sheets-requires
+    returns
+    size-of-requires
+    check-strip-requires
+    returns-2
+    run-blocks-requires
+    same-length
+    same-length-2
+    returns-3)
