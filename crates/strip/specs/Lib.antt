@@ -1,3 +1,4 @@
 pub mod Plans
 pub mod Lengths
 pub mod Turns
+pub mod Promises
