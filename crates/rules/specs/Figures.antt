@@ -3,6 +3,7 @@ use mathlib.Core.List.{List, [], _∷_, map}
 use mathlib.Core.Path.{_≡_, refl}
 use Prim.Native.Nat.{ℕ}
 use lib.IntN.{ℤ, pos, negℤ}
+use lib.ListN.{replicate}
 use Rattle.whole.specs.Sum.{sum}
 use Rattle.rules.specs.declared.Answer.{Answer}
 use Rattle.rules.specs.declared.Kind.{Kind}
@@ -13,6 +14,7 @@ use Rattle.rules.specs.Stages.{nearest, R, share, ceiling, fill, inside,
 use Rattle.rules.specs.Shapes.{those, byTurn, turn, order, inRow, stageOf, lineStage, lineStages, jointSource, jointSign, jointWeight, jointShared, jointStage, jointStages}
 use Rattle.rules.specs.Recipes.{code, value, spell, group, groups, packed, unpack, left, written}
 use Rattle.rules.specs.Answers.{_or-else_, accepted, counted, refused, further, first, matching, pairChecked}
+use Rattle.rules.specs.Strips.{StripReply, stripAnswer, outputs, bytesOf, strip}
 use Rattle.rules.specs.Calls.{Reply, reply, read, write, builtIn, firstPrinting, writeTable, line, joint, ranAnswer, ranMemory, runReply, forwardCall, inverseCall, allowanceCall}
 
 -- what a case shows, and what document 01 prints for it
@@ -20,6 +22,7 @@ pub data Shown : Type 0 where
   numbers-of : Reply ℤ → Shown
   bytes-of : Reply ℕ → Shown
   bytes : List ℕ → Shown
+  strip-of : StripReply → Shown
 
 pub record Figure : Type 0 where
   pub found : Shown
@@ -30,6 +33,13 @@ gives r a v = record { found = numbers-of r; printed = numbers-of (record { answ
 
 abbrev spells : Reply ℕ → Answer → List ℕ → Figure
 spells r a l = record { found = bytes-of r; printed = bytes-of (record { answer = a; memory = l }) }
+
+-- a forward strip of the built-in recipe
+abbrev strips : List ℤ → List ℤ → List ℕ → Answer → List ℤ → List ℕ → Figure
+strips x y b a out marks = record {
+  found = strip-of (strip (line builtIn) (forwardCall nearest (line builtIn)) x y b);
+  printed = strip-of (record { answer = a; output = out; bytes = marks });
+}
 
 -- numbers as document 01 writes them
 abbrev neg : ℕ → ℤ
@@ -43,6 +53,12 @@ three x y z = x ∷ y ∷ z ∷ []
 
 abbrev four : ℤ → ℤ → ℤ → ℤ → List ℤ
 four x y z t = x ∷ y ∷ z ∷ t ∷ []
+
+abbrev nines : ℕ → List ℤ
+nines n = replicate n (pos 9)
+
+abbrev blocks₃ : ℤ → ℤ → ℤ → ℤ → List ℤ
+blocks₃ x o y z = x ∷ o ∷ o ∷ o ∷ o ∷ y ∷ o ∷ o ∷ o ∷ z ∷ o ∷ o ∷ []
 
 -- what the lent slice holds before a call
 abbrev found₂ : List ℤ
@@ -109,6 +125,12 @@ table =
     ∷ gives (inverseCall nearest (line builtIn) (four (pos 100) (pos 110) (pos 120) (pos 130)) found₄) accepted (four (pos 230) (neg 22) (pos 0) (neg 1))
     ∷ gives (writeTable builtIn found₂) (refused 15 0 45) found₂
     ∷ gives (writeTable firstPrinting found₂) (refused 15 0 45) found₂
+    -- R-1: three blocks end to end, the second beyond the bound; no blocks; no whole number of blocks
+    ∷ strips (blocks₃ (pos 100) (pos 0) (pos 16777216) (pos 100)) (nines 12) (7 ∷ 7 ∷ 7 ∷ []) accepted
+    (pos 50 ∷ pos 50 ∷ pos 50 ∷ pos 50 ∷ pos 9 ∷ pos 9 ∷ pos 9 ∷ pos 9 ∷ pos 65 ∷ pos 28 ∷ neg 28 ∷ neg 65 ∷ []) (0 ∷ 11 ∷ 0 ∷ [])
+    ∷ strips [] [] [] accepted [] []
+    ∷ strips (nines 3) (nines 3) [] (refused 10 0 0) (nines 3) []
+    ∷ strips (nines 4) (nines 4) [] (refused 10 1 0) (nines 4) []
     -- h: "entry 16384 is bytes 80 80 02; bytes 84 00 are refused 14"
     ∷ record { found = bytes (written (pos 16384)); printed = bytes (0x80 ∷ 0x80 ∷ 0x02 ∷ []) }
     ∷ gives (read (0x84 ∷ 0x00 ∷ []) found₂) (refused 14 0 0) found₂
@@ -116,7 +138,7 @@ table =
 
 -- every case shows what document 01 prints
 pub figures : map (λ (f : Figure). f .found) table ≡ map (λ (f : Figure). f .printed) table
-unfolding table sum go times among faultOf one kindOf triangle weights body factor closed head reading numbers signsAt above entriesBefore factorAt factorsFrom factors hasEntry matrix R share ceiling fill inside off weighed multiples putBack forward recover undo allow later run runForward runInverse runAllowance those byTurn turn order inRow stageOf lineStage lineStages jointSource jointSign jointWeight jointShared jointStage jointStages code value spell group groups packed unpack left _or-else_ further first matching pairChecked reply read write writeTable line joint ranAnswer ranMemory runReply forwardCall inverseCall allowanceCall
+unfolding table sum go times among faultOf one kindOf triangle weights body factor closed head reading numbers signsAt above entriesBefore factorAt factorsFrom factors hasEntry matrix R share ceiling fill inside off weighed multiples putBack forward recover undo allow later run runForward runInverse runAllowance those byTurn turn order inRow stageOf lineStage lineStages jointSource jointSign jointWeight jointShared jointStage jointStages code value spell group groups packed unpack left _or-else_ further first matching pairChecked reply read write writeTable line joint ranAnswer ranMemory runReply forwardCall inverseCall allowanceCall stripAnswer outputs bytesOf strip
 figures = refl
 
 -- the recovery orders of a rectangle of three by three, kind 4 with rows 1 and 2
