@@ -5,7 +5,7 @@ use lib.IntN.{ℤ}
 use Rattle.rules.specs.declared.Answer.{Answer}
 use Rattle.rules.specs.Calls.{Reply, Plan}
 use Rattle.rules.specs.Strips.{stripAnswer}
-use Rattle.laws.specs.Strips.{strip-fits}
+use Rattle.laws.specs.Strips.{StripFits, strip-fits}
 use Rattle.strip.specs.Plans.{planOf, callOf, some-numbers}
 use Rattle.strip.specs.Lengths.{sheets-first, lengths-then, strip-stops, strip-goes}
 use borrow.Author.Needs.{needs}
@@ -30,6 +30,16 @@ answer :
 answer c =
     let s = c .before .before .before .before .before .before in
     lengths-then (plan s) (s .args .x .now) (s .args .y .now) (s .args .bytes .now) (fine (c .before .before)) (rw (c .before .size-of .ensures) at (c .check-strip .ensures))
+
+-- and if it is accepted, the lengths fit
+fits :
+    (c : tie.Else2) →
+    let s = c .before .before .before .before .before .before .before .before in
+    StripFits (plan s) (s .args .x .now) (s .args .y .now) (s .args .bytes .now)
+fits c =
+    let k = c .before .before in
+    let s = k .before .before .before .before .before .before in
+    strip-fits (plan s) (s .args .x .now) (s .args .y .now) (s .args .bytes .now) (ap (λ (a : Answer). a .number) (sym (answer k)) ∙ c .if2 .left)
 
 check-sheets-requires : tie.Need-check-sheets-requires
 check-sheets-requires c κs = search needs
@@ -56,10 +66,8 @@ returns-2 c =
 run-blocks-requires : tie.Need-run-blocks-requires
 run-blocks-requires c κs =
     let e = c .before .before in
-    let k = e .before .before in
-    let z = k .before in
-    let s = z .before .before .before .before .before in
-    let f = strip-fits (plan s) (s .args .x .now) (s .args .y .now) (s .args .bytes .now) (ap (λ (a : Answer). a .number) (sym (answer k)) ∙ e .if2 .left) in
+    let z = e .before .before .before in
+    let f = fits e in
     (f .sheets, z .size-of .ensures, rw (z .size-of .ensures) (f .input), rw (z .size-of .ensures) (f .output))
 
 same-length : tie.Need-same-length
