@@ -1,7 +1,8 @@
 """Seeded cases with expected answers, as 32-bit little-endian signed words.
 
 Usage: python3 second/cases.py CALLS SEED COUNT > stream
-CALLS is a comma list of call names (or `all`); COUNT cases of each call follow
+CALLS is a comma list of call names (or `all`, or `figures` for the printed
+figures, whatever SEED and COUNT); COUNT cases of each call follow
 one another, so a list of calls gives the streams of its calls end to end.
 With TALLY=1 in the environment the answers are counted on standard error.
 
@@ -580,6 +581,45 @@ CALLS = {
 }
 
 
+# The figures of document 01 and of its requests as they are printed, so that
+# no line of the model stands between them and the library. Lent memory is 9.
+
+
+def printed(call, a, b, x, length, answer, after):
+    """One figure; a refused call leaves the 9s."""
+    return call, Case(a, b, x, [9] * length, answer, after or [9] * length)
+
+
+def figure_cases():
+    ok, corrected, first = laws.OK, model.BUILT_IN, model.FIRST_PRINTING
+    sheet_a, sheet_b, sheet_c, sheet_d, sheet_e = laws.SHEET_A, laws.SHEET_B, laws.SHEET_C, laws.SHEET_D, laws.SHEET_E
+    forward, inverse, allow, joint, read, write = 7, 8, 9, 10, 4, 5
+    bytes_a = [0x04, 0x02, 0x04, 0x02, 0x02, 0x80, 0x20]
+    yield printed(forward, sheet_a, [], [3, 5], 2, ok, [3, 7])
+    yield printed(forward, sheet_a, [], [-2, 5], 2, ok, [-2, 4])
+    yield printed(forward, sheet_a, [], [-1, 5], 2, ok, [-1, 5])
+    yield printed(allow, sheet_a, [], [], 2, ok, [0, 2048])
+    yield printed(write, sheet_a, [], [], 7, (0, 0, 7), bytes_a)
+    yield printed(read, bytes_a, [], [], 6, (0, 0, 6), sheet_a)
+    yield printed(forward, sheet_b, [], [3, 5], 2, ok, [-7, -7])
+    yield printed(inverse, sheet_b, [], [-7, -7], 2, ok, [3, 5])
+    yield printed(forward, sheet_c, [], [10, 20, 30], 3, ok, [30, 10, 20])
+    yield printed(forward, sheet_d, [], [4, 7, 3], 3, ok, [4, -2, 3])
+    yield printed(allow, sheet_d, [], [], 3, ok, [0, 2048, 0])
+    yield printed(forward, sheet_e, [], [16777215, 0], 2, ok, [16777215, 16777215])
+    yield printed(forward, sheet_e, [], [16777215, 1], 2, (11, 0, 1), None)
+    yield printed(forward, sheet_e, [], [16777216, 0], 2, (11, 0, 0), None)
+    yield printed(allow, sheet_e, [], [], 2, ok, [0, 0])
+    yield printed(joint, sheet_a, sheet_a, [1, 1, 0, 0], 4, ok, [1, 2, 1, 1])
+    yield printed(11, sheet_a, sheet_a, [1, 2, 1, 1], 4, ok, [1, 1, 0, 0])
+    for table in (corrected, first):
+        yield printed(forward, table, [], [100, 0, 0, 0], 4, ok, [50, 50, 50, 50])
+        yield printed(inverse, table, [], [50, 50, 50, 50], 4, ok, [100, 0, 0, 0])
+    yield printed(forward, first, [], [0, 100, 0, 0], 4, ok, [163, -94, 94, -65])
+    yield printed(forward, corrected, [], [0, 100, 0, 0], 4, ok, [65, 28, -28, -65])
+    yield printed(read, [0x84, 0x00], [], [], 2, (14, 0, 0), None)
+
+
 def words_of(call_number, case):
     """A case in the order of the stream."""
     lengths = [len(case.a), len(case.b), len(case.x), len(case.y)]
@@ -627,6 +667,10 @@ def main(arguments):
     if len(arguments) != 3:
         sys.exit(__doc__)
     calls, seed, count = arguments
+    if calls == "figures":
+        for number, case in figure_cases():
+            sys.stdout.buffer.write(packed(words_of(number, case)))
+        return
     names = list(CALLS) if calls == "all" else calls.split(",")
     for name in names:
         if name not in CALLS:

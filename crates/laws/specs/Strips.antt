@@ -42,34 +42,34 @@ run-number :
 unfolding reply
 run-number p ran x y h l m = rw (run-ready p ran x y h l m) (ran-number ran)
 
+-- a call that is a run, whose coefficients or samples are as many as its numbers
+run-call :
+    {p : Plan} {call : List ℤ → List ℤ → Reply ℤ} (run : List ℤ → Ran) → ((x y : List ℤ) → call x y ≡ runReply p (run x) x y) →
+    ((x y : List ℤ) → Keeps (call x y) y) →
+    ((x y : List ℤ) → call x y .answer .number ≡ 0 → length (call x y .memory) ≡ length x) → BlockCall p call
+run-call {p} {call} run is kept fills = record {
+  long = λ x y l m. split x y l m (ℕ-discrete (call x y .answer .number) 0);
+  keeps = kept;
+  number = λ x y h l m. rw (is x y) (run-number p (run x) x y h l m);
+}
+  where
+    split :
+        (x y : List ℤ) → length x ≡ p .size → length y ≡ p .size → Dec (call x y .answer .number ≡ 0) → length (call x y .memory) ≡ p .size
+    split x y l m (yes h) = fills x y h ∙ l
+    split x y l m (no h) = ap length (kept x y .keeps h) ∙ m
+
 module _ (rule : Rule) (p : Plan) where
   pub forward-block : BlockCall p (forwardCall rule p)
-  forward-block = record {
-    long = λ x y l m. split x y l m (ℕ-discrete (forwardCall rule p x y .answer .number) 0);
-    keeps = forward-keeps rule p;
-    number = λ x y. unfold forwardCall in run-number p (runForward rule (p .size) (p .stages) x) x y;
-  }
-    where
-      split :
-          (x y : List ℤ) → length x ≡ p .size → length y ≡ p .size → Dec (forwardCall rule p x y .answer .number ≡ 0) →
-          length (forwardCall rule p x y .memory) ≡ p .size
-      split x y l m (yes h) =
-          forward-length rule (p .size) (p .stages) x _ (forward-gives rule p x y _ .0 (forward-accepted rule p x y h) .1 .gives) ∙ l
-      split x y l m (no h) = ap length (forward-keeps rule p x y .keeps h) ∙ m
+  unfolding forwardCall
+  forward-block =
+      run-call (runForward rule (p .size) (p .stages)) (λ x y. refl) (forward-keeps rule p)
+      (λ x y h. forward-length rule (p .size) (p .stages) x _ (forward-gives rule p x y _ .0 (forward-accepted rule p x y h) .1 .gives))
 
   pub inverse-block : BlockCall p (inverseCall rule p)
-  inverse-block = record {
-    long = λ x y l m. split x y l m (ℕ-discrete (inverseCall rule p x y .answer .number) 0);
-    keeps = inverse-keeps rule p;
-    number = λ x y. unfold inverseCall in run-number p (runInverse rule (p .size) (p .stages) x) x y;
-  }
-    where
-      split :
-          (x y : List ℤ) → length x ≡ p .size → length y ≡ p .size → Dec (inverseCall rule p x y .answer .number ≡ 0) →
-          length (inverseCall rule p x y .memory) ≡ p .size
-      split x y l m (yes h) =
-          inverse-length rule (p .size) (p .stages) x _ (inverse-gives rule p x y _ .0 (inverse-accepted rule p x y h) .1 .gives) ∙ l
-      split x y l m (no h) = ap length (inverse-keeps rule p x y .keeps h) ∙ m
+  unfolding inverseCall
+  inverse-block =
+      run-call (runInverse rule (p .size) (p .stages)) (λ x y. refl) (inverse-keeps rule p)
+      (λ x y h. inverse-length rule (p .size) (p .stages) x _ (inverse-gives rule p x y _ .0 (inverse-accepted rule p x y h) .1 .gives))
 
 -- ---- blocks
 -- a block before the m-th ends there at the latest
