@@ -1,7 +1,7 @@
 -- A BLOCK IN ITS ROOM: its numbers at the front of an array, 0 behind them, and the reply to a run over that array.
 use mathlib.Core.Bool.{Bool, true, false, cond}
 use mathlib.Core.List.{List, _++_}
-use mathlib.Core.Path.{_≡_, refl, sym, _∙_}
+use mathlib.Core.Path.{_≡_, refl, sym, ap, _∙_}
 use Prim.Native.Nat.{ℕ, zero, suc, _+_, _-_, _≤_, _<_}
 use native.Mathlib.Decide.{decLt}
 use native.Mathlib.Omega.{arith}
@@ -33,6 +33,28 @@ ranStage (beyond s) = s
 unfoldable pub finished : Bool → ℕ → List ℤ → ℕ → List ℤ → Reply ℤ
 finished ok stage block number y =
     cond ok (record { answer = accepted; memory = fill (length y) (at block) y }) (record { answer = refused number 0 stage; memory = y })
+
+-- how the code ends a run: whether it was accepted, the stage that is refused, and the block of an accepted one
+pub record Reached (ran : Ran) (ok : Bool) (stage : ℕ) (block : List ℤ) : Type 0 where
+  pub tells : ok ≡ ranOk ran
+  pub stops : stage ≡ ranStage ran
+  pub takes : ok ≡ true → ran ≡ done block
+
+pub reached-done : {ran : Ran} {v : List ℤ} → ran ≡ done v → Reached ran true 0 v
+unfolding ranOk ranStage
+reached-done e = record { tells = rw e; stops = rw e; takes = λ t. e }
+
+pub reached-stop : {ran : Ran} {s : ℕ} {v : List ℤ} → ran ≡ beyond s → Reached ran false s v
+unfolding ranOk ranStage
+reached-stop e = record { tells = rw e; stops = rw e; takes = λ t. let z : _≡_ {A = ℕ} 0 1 = cc in absurd (omega arith) }
+
+-- the block of a refused run is not looked at
+pub reached-ends :
+    (ran : Ran) {ok : Bool} {stage : ℕ} {block : List ℤ} → Reached ran ok stage block → (b : List ℤ) (number : ℕ) (y : List ℤ) →
+    finished ok stage block number y ≡ finished (ranOk ran) (ranStage ran) (ranMemory ran b) number y
+unfolding finished ranOk ranStage ranMemory
+reached-ends (done v) {block} h b number y = let e : v ≡ block = ap (λ (r : Ran). ranMemory r b) (h .takes (h .tells)) in rw (h .tells, e)
+reached-ends (beyond s) h b number y = rw (h .tells, h .stops)
 
 -- the numbers at the front of a block, written over a slice of their length
 store-is : (v p y : List ℤ) → length v ≡ length y → fill (length y) (at (v ++ p)) y ≡ v

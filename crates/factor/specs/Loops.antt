@@ -7,7 +7,7 @@ use lib.IntN.{ℤ}
 use Rattle.rules.specs.Stages.{Stage, Ran, done, beyond, inside, later, run}
 use Rattle.rules.specs.Laws.Runs.{loop-step, loop-refused, loop-end}
 use Rattle.factor.specs.Reach.{Numbers, numbers-inside}
-use Rattle.factor.specs.Steps.{Step, step-no, step-yes}
+use Rattle.factor.specs.Steps.{Step, step-no}
 
 -- K stages one by one, and the lists of those that are left
 pub record Listed (K : ℕ) (stage : ℕ → Stage) (rest : ℕ → List Stage) : Type 0 where
@@ -29,12 +29,12 @@ module _ {most n : ℕ} {step : Stage → List ℤ → List ℤ} {K : ℕ} {stag
       ∙ loop-step (inside most n) step t (stage t) (rest (t + 1)) v (numbers-inside n (s .small))
 
   pub turn-on :
-      {ran : Ran} (t : ℕ) {v u : List ℤ} {ok : Bool} → t < K → Stands most n step rest ran t v → Step most n (step (stage t) v) v ok u → ok ≡ true →
+      {ran : Ran} (t : ℕ) {v u : List ℤ} {ok : Bool} → t < K → Stands most n step rest ran t v → Step most n (step (stage t) v) ok u → ok ≡ true →
       Stands most n step rest ran (t + 1) u
-  turn-on t {v} l s e o = record { small = e .small; left = rw (step-yes e o) (turn t v l s) }
+  turn-on t {v} l s e o = let h = e .takes o in record { small = h .1; left = rw (h .0) (turn t v l s) }
 
   pub turn-stop :
-      {ran : Ran} (t : ℕ) {v u : List ℤ} {ok : Bool} → t < K → Stands most n step rest ran t v → Step most n (step (stage t) v) v ok u → ok ≡ false →
+      {ran : Ran} (t : ℕ) {v u : List ℤ} {ok : Bool} → t < K → Stands most n step rest ran t v → Step most n (step (stage t) v) ok u → ok ≡ false →
       ran ≡ beyond (t + 1)
   turn-stop t {v} l s e o = turn t v l s ∙ loop-refused (inside most n) step (t + 1) (rest (t + 1)) (step (stage t) v) (step-no e o)
 

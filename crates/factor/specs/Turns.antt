@@ -12,7 +12,9 @@ use Rattle.rules.specs.declared.Kind.{Kind}
 use Rattle.rules.specs.declared.Kind.the-variants.{Permutation, Lower, Upper, Single}
 use Rattle.rules.specs.Factors.{Factor, hasEntry, matrix}
 use Rattle.rules.specs.Laws.Good.{Permutes}
-use Rattle.factor.specs.Spots.{placeOf}
+use Rattle.factor.specs.declared.Row.{Row}
+use Rattle.factor.specs.declared.Spot.{Spot}
+use Rattle.factor.specs.Spots.{placeOf, rowBy, rowOf}
 
 same : (n : ℕ) → Permutes n (λ t. t)
 same n = record { from = λ e. e; below = λ e l. l; from-below = λ e l. l; to-from = λ e l. refl; from-to = λ e l. refl }
@@ -83,6 +85,46 @@ places-permute Upper n r b = record {
 }
 places-permute Single n r b = round n r b
 
+-- the other way round: the element that is recovered last comes first
+pub places-reverse : (kind : Kind) (n r : ℕ) → r < n → Permutes n (λ t. placeOf kind n r (n - suc t))
+places-reverse kind n r b =
+    let p = places-permute kind n r b in
+    record {
+      from = λ e. n - suc (p .from e);
+      below = λ t l. p .below (n - suc t) (omega arith);
+      from-below = λ e l. omega arith;
+      to-from = λ e l. let f = p .from-below e l in let z : n - suc (n - suc (p .from e)) ≡ p .from e = omega arith in rw z (p .to-from e l);
+      from-to = λ t l. rw (p .from-to (n - suc t) (omega arith)) (omega arith);
+    }
+
+-- the entries of row m leave out column l, and so does the diagonal
+pub record Unseen (r : Row) (m l : ℕ) : Type 0 where
+  pub left : (j : ℕ) → j < r .left → j ≢ l
+  pub own : m ≢ l
+  pub right : (j : ℕ) → j < r .right → suc m + j ≢ l
+
+places-apart : (kind : Kind) (n r t u : ℕ) → r < n → t < u → u < n → placeOf kind n r t ≢ placeOf kind n r u
+places-apart kind n r t u b l k z =
+    let p = places-permute kind n r b in omega (arith, sym (p .from-to t (omega arith)) ∙ ap (p .from) z ∙ p .from-to u k)
+
+-- a row looks at no element that is recovered after it
+pub row-blind : (f : Spot) (t u : ℕ) → f .row < f .order → t < u → u < f .order →
+    Unseen (rowOf f (placeOf (f .kind) (f .order) (f .row) t)) (placeOf (f .kind) (f .order) (f .row) t) (placeOf (f .kind) (f .order) (f .row) u)
+unfolding rowBy placeOf
+row-blind f t u b l k = go (f .kind) (places-apart (f .kind) n r t u b l k)
+  where
+    n : ℕ
+    n = f .order
+
+    r : ℕ
+    r = f .row
+
+    go : (kind : Kind) → placeOf kind n r t ≢ placeOf kind n r u → Unseen (rowBy kind n r (f .entries) (placeOf kind n r t)) (placeOf kind n r t) (placeOf kind n r u)
+    go Permutation q = record { left = λ j a. absurd (omega arith); own = q; right = λ j a. absurd (omega arith) }
+    go Lower q = record { left = λ j a e. omega arith; own = q; right = λ j a. absurd (omega arith) }
+    go Upper q = record { left = λ j a. absurd (omega arith); own = q; right = λ j a e. omega arith }
+    go Single q = rw (ne-eqb _ r (not-yet n r b t (omega arith))) (record { left = λ j a. absurd (omega arith); own = q; right = λ j a. absurd (omega arith) })
+
 entry-blind : (kind : Kind) (n r t u : ℕ) → r < n → t < u → u < n → hasEntry kind r (placeOf kind n r t) (placeOf kind n r u) ≡ false
 unfolding hasEntry placeOf
 entry-blind Permutation n r t u b l k = refl
@@ -104,10 +146,4 @@ pub later-blind :
     matrix f (placeOf kind n r t) (placeOf kind n r u) ≡ pos 0
 unfolding matrix
 later-blind f kind n r t u e b q l k =
-    rw (ne-eqb _ _ differ, e, entry-row kind (f .row) r (placeOf kind n r t) (placeOf kind n r u) q, entry-blind kind n r t u b l k)
-  where
-    p : Permutes n (placeOf kind n r)
-    p = places-permute kind n r b
-
-    differ : placeOf kind n r t ≢ placeOf kind n r u
-    differ z = omega (arith, sym (p .from-to t (omega arith)) ∙ ap (p .from) z ∙ p .from-to u k)
+    rw (ne-eqb _ _ (places-apart kind n r t u b l k), e, entry-row kind (f .row) r (placeOf kind n r t) (placeOf kind n r u) q, entry-blind kind n r t u b l k)

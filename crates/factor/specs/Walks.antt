@@ -27,6 +27,13 @@ unfolding walk
 length-walk step p zero y = refl
 length-walk step p (suc t) y = length-set (walk step p t y) (p t) _ ∙ length-walk step p t y
 
+-- an element whose turn has not come is as it was
+pub walk-other : (step : List ℤ → ℕ → ℤ) (p : ℕ → ℕ) (t : ℕ) (y : List ℤ) (e : ℕ) → ((u : ℕ) → u < t → p u ≢ e) → at (walk step p t y) e ≡ at y e
+unfolding walk
+walk-other step p zero y e h = refl
+walk-other step p (suc t) y e h =
+    set-other (walk step p t y) (p t) e _ (λ z. h t (omega arith) (sym z)) ∙ walk-other step p t y e (λ u l. h u (omega arith))
+
 module _ {N : ℕ} {p : ℕ → ℕ} (h : Permutes N p) where
   apart : (t u : ℕ) → t < N → u < N → t ≢ u → p t ≢ p u
   apart t u a b q e = q (sym (h .from-to t a) ∙ ap (h .from) e ∙ h .from-to u b)
