@@ -11,12 +11,14 @@ use Rattle.rules.specs.Numbers.{unit, unit², mostAllowance, at}
 use Rattle.rules.specs.Stages.{ceiling}
 use Rattle.factor.specs.declared.Row.{Row}
 use Rattle.factor.specs.declared.Spot.{Spot}
+use Rattle.factor.specs.declared.Way.{Way}
+use Rattle.factor.specs.declared.Way.the-variants.{Applied, Allowed}
 use Rattle.factor.specs.Spots.{row, rowOf}
 use Rattle.factor.specs.Reach.{Numbers}
 use Rattle.factor.specs.Lies.{Lies, row-wide}
 use Rattle.factor.specs.Magnitudes.{magnitudesOf, Entries, whole, row-entries, sizes-row}
 use Rattle.joint.specs.Sums.{columnSums, jointSum, mostColumn, Band, columns-small, joint-small}
-use Rattle.joint.specs.Elements.{mostJoint}
+use Rattle.joint.specs.Elements.{mostJoint, outOf}
 
 -- ---- definitions
 -- the magnitudes of a row's entries, copied side by side
@@ -46,6 +48,11 @@ allowAt s f j w v b = (b +ℤ ceiling unit² (sizeSum s f j v b)) +ℤ shareOf w
 unfoldable pub allowOf : List ℤ → Spot → List ℤ → Spot → List ℤ → ℕ → ℤ
 allowOf c fa r fb b e =
     allowAt r fb (e % fb .order) (wholeRow c fa (e / fb .order)) (sizeSums c fa (e / fb .order) b (fb .order)) (at b e)
+
+-- what an element becomes on either way through the stages
+unfoldable pub newOf : Way → List ℤ → Spot → List ℤ → Spot → List ℤ → ℕ → ℤ
+newOf Applied c fa r fb x e = outOf c fa r fb x e
+newOf Allowed c fa r fb x e = allowOf c fa r fb x e
 
 -- ---- sizes
 module _ {s : List ℤ} {f : Spot} (h : Lies s f) (m : ℕ) (l : m < f .order) where

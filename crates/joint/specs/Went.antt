@@ -15,7 +15,7 @@ use Rattle.rules.specs.Laws.Good.{Permutes}
 use Rattle.rules.specs.Laws.Rect.{row-of, col-of}
 use Rattle.factor.specs.declared.Spot.{Spot}
 use Rattle.factor.specs.Reach.{Numbers, beyond-there}
-use Rattle.factor.specs.Walks.{walk, walk-stays}
+use Rattle.factor.specs.Walks.{walk, walk-other, walk-stays}
 use Rattle.joint.specs.Elements.{signAt, sumsAt, outAt, backAt, outOf, backOf}
 use Rattle.joint.specs.Sizes.{sizeSums, wholeRow, allowAt, allowOf}
 
@@ -53,6 +53,18 @@ pub walk-on : (step : List ℤ → ℕ → ℤ) (p q : ℕ → ℕ) (a b : ℕ) 
 unfolding walk
 walk-on step p q a zero x e = rw add-zero
 walk-on step p q a (suc b) x e = rw (walk-on step p q a b x (λ u l. e u (omega arith)), add-suc, e b (omega arith))
+
+-- the element whose turn it is, as it was before the row
+pub row-ahead : (step : List ℤ → ℕ → ℤ) (n i j : ℕ) (x : List ℤ) {y : List ℤ} → y ≡ walk step (inRow n i) j x → at y (i * n + j) ≡ at x (i * n + j)
+row-ahead step n i j x w = ap (λ (v : List ℤ). at v (i * n + j)) w ∙ walk-other step (inRow n i) j x (i * n + j) (λ u l e. omega arith)
+
+-- steps that make the same numbers
+pub went-same : {most m : ℕ} {q : ℕ → ℕ} {x y : List ℤ} {ok : Bool} (f g : ℕ → ℤ) → ((u : ℕ) → u < m → f (q u) ≡ g (q u)) →
+    Went most (plain f) q m x y ok → Went most (plain g) q m x y ok
+went-same {m} {q} {x} f g h w = record {
+  through = λ t. (w .through t .0 ∙ plain-same f g q m x h, w .through t .1);
+  stuck = λ t. let s = w .stuck t in record { turn = s .turn; before = s .before; far = rw (h (s .turn) (s .before)) at (s .far) };
+}
 
 -- an element by its row and column
 pub out-here : (c : List ℤ) (fa : Spot) (r : List ℤ) (fb : Spot) (x : List ℤ) (i j : ℕ) → j < fb .order →

@@ -9,8 +9,9 @@ ghost use Rattle.rules.specs.Numbers.{bound, mostAllowance};
 ghost use Rattle.factor.specs.Spots.{placeOf};
 ghost use Rattle.factor.specs.Reach.{Numbers};
 ghost use Rattle.factor.specs.Lies.{Lies};
+ghost use Rattle.factor.specs.Ways.{limitOf};
 ghost use Rattle.joint.specs.Elements.{outOf, backOf};
-ghost use Rattle.joint.specs.Sizes.{allowOf};
+ghost use Rattle.joint.specs.Sizes.{allowOf, newOf};
 ghost use Rattle.joint.specs.Went.{Went, inRow, plain};
 use crate::allowances::allow_at;
 use crate::allowances::is_whole_row;
@@ -22,22 +23,15 @@ use crate::elements::sign_at;
 use crate::elements::sums_at;
 use crate::sums::with_sum;
 use factor::Spot;
+use factor::Way;
 use factor::place_of;
 use factor::rounding::is_within;
 use rules::Block;
 
-// Row i applied: each element from the old block x.
-pub fn weigh_row(
-    col: &[i32],
-    fa: Spot,
-    row: &[i32],
-    fb: Spot,
-    i: usize,
-    x: &[i32; 256],
-    y: &mut [i32; 256],
-) -> bool
-    requires { ⌜ Lies (now col) fa × Lies (now row) fb × (i < fa .order) × Numbers bound (now x) × Numbers bound (now y) ⌝ }
-    ensures { λ ok. ⌜ Went bound (plain (outOf (now (col .entry)) fa (now (row .entry)) fb (now (x .entry)))) (inRow (fb .order) i) (fb .order) (now (y .entry)) (now (y .exit)) ok ⌝ }
+// Row i applied in place: an element looks at the row's sums, made before, and at its own number.
+fn weigh_row(col: &[i32], fa: Spot, row: &[i32], fb: Spot, i: usize, x: &mut [i32; 256]) -> bool
+    requires { ⌜ Lies (now col) fa × Lies (now row) fb × (i < fa .order) × Numbers bound (now x) ⌝ }
+    ensures { λ ok. ⌜ Went bound (plain (outOf (now (col .entry)) fa (now (row .entry)) fb (now (x .entry)))) (inRow (fb .order) i) (fb .order) (now (x .entry)) (now (x .exit)) ok ⌝ }
 {
     let n = fb.order;
     let v = sums_at(col, fa, i, x, n);
@@ -47,7 +41,7 @@ pub fn weigh_row(
         if !is_within(z, Block::SAMPLE) {
             return false;
         }
-        y[e] = z as i32;
+        x[e] = z as i32;
     }
     true
 }
@@ -89,18 +83,10 @@ pub fn unweigh_row(
     true
 }
 
-// The allowances of row i: each from the old block x.
-pub fn allow_row(
-    col: &[i32],
-    fa: Spot,
-    row: &[i32],
-    fb: Spot,
-    i: usize,
-    x: &[i32; 256],
-    y: &mut [i32; 256],
-) -> bool
-    requires { ⌜ Lies (now col) fa × Lies (now row) fb × (i < fa .order) × Numbers mostAllowance (now x) × Numbers mostAllowance (now y) ⌝ }
-    ensures { λ ok. ⌜ Went mostAllowance (plain (allowOf (now (col .entry)) fa (now (row .entry)) fb (now (x .entry)))) (inRow (fb .order) i) (fb .order) (now (y .entry)) (now (y .exit)) ok ⌝ }
+// The allowances of row i in place.
+fn allow_row(col: &[i32], fa: Spot, row: &[i32], fb: Spot, i: usize, x: &mut [i32; 256]) -> bool
+    requires { ⌜ Lies (now col) fa × Lies (now row) fb × (i < fa .order) × Numbers mostAllowance (now x) ⌝ }
+    ensures { λ ok. ⌜ Went mostAllowance (plain (allowOf (now (col .entry)) fa (now (row .entry)) fb (now (x .entry)))) (inRow (fb .order) i) (fb .order) (now (x .entry)) (now (x .exit)) ok ⌝ }
 {
     let n = fb.order;
     let whole = is_whole_row(col, fa, i);
@@ -111,7 +97,26 @@ pub fn allow_row(
         if !is_within(z, Block::ALLOWANCE) {
             return false;
         }
-        y[e] = z as i32;
+        x[e] = z as i32;
     }
     true
+}
+
+// Row i applied, or on allowances, in place: each element from the block as it stands before the row.
+pub fn take_row(
+    way: Way,
+    col: &[i32],
+    fa: Spot,
+    row: &[i32],
+    fb: Spot,
+    i: usize,
+    x: &mut [i32; 256],
+) -> bool
+    requires { ⌜ Lies (now col) fa × Lies (now row) fb × (i < fa .order) × Numbers (limitOf way) (now x) ⌝ }
+    ensures { λ ok. ⌜ Went (limitOf way) (plain (newOf way (now (col .entry)) fa (now (row .entry)) fb (now (x .entry)))) (inRow (fb .order) i) (fb .order) (now (x .entry)) (now (x .exit)) ok ⌝ }
+{
+    match way {
+        Way::Applied => return weigh_row(col, fa, row, fb, i, x),
+        Way::Allowed => return allow_row(col, fa, row, fb, i, x),
+    }
 }

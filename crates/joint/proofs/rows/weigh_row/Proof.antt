@@ -9,29 +9,32 @@ use mir.Syntax.{w32, w64}
 use mir.Val.{toZ, ofZ}
 use Rattle.whole.specs.Diff.{Within}
 use Rattle.whole.specs.Machine.{fits, reads, back}
-use Rattle.rules.specs.Numbers.{bound}
+use Rattle.rules.specs.Numbers.{bound, at}
 use Rattle.factor.specs.Reach.{Numbers, numbers-set, test-no, test-yes}
 use Rattle.factor.specs.Walks.{walk}
 use Rattle.joint.specs.Elements.{signAt, outOf, sums-small}
-use Rattle.joint.specs.Went.{plain, inRow, out-here, in-block}
+use Rattle.joint.specs.Went.{plain, inRow, row-ahead, out-here, in-block}
 use Rattle.joint.proofs.rows.weigh_row.Statement.{statement}
 use Rattle.joint.proofs.rows.weigh_row.Tie as tie
 
 abbrev Inv-loop : tie.InvT-loop
-Inv-loop col fa row fb i x y₀ n v j₀ y j = (j ≤ n) × (y ≡ walk (plain (outOf col fa row fb x)) (inRow n i) j y₀) × Numbers bound y
+Inv-loop col fa row fb i x₀ n v j₀ x j = (j ≤ n) × (x ≡ walk (plain (outOf col fa row fb x₀)) (inRow n i) j x₀) × Numbers bound x
 
 abbrev μ-loop : tie.MeasureT-loop
-μ-loop col fa row fb i x y₀ n v j₀ y j = n - j
+μ-loop col fa row fb i x₀ n v j₀ x j = n - j
 
 sums-at-requires : tie.Need-sums-at-requires Inv-loop μ-loop
-sums-at-requires c κs = (c .pre .0, c .pre .2, c .pre .1 .order, c .pre .3)
+sums-at-requires c κs = let s = c .before in (s .pre .0, s .pre .2, s .pre .1 .order, s .pre .3)
 
 loop-holds : tie.Need-loop-holds Inv-loop μ-loop
 unfolding walk
-loop-holds c = (omega arith, refl, c .before .pre .4)
+loop-holds c = (omega arith, refl, c .before .before .pre .3)
 
-room : (c : tie.In-loop Inv-loop μ-loop) → c .before .before .before .args .i * c .before .before .before .args .fb .order + c .before .loop .j < 256
-room c = let s = c .before .before .before in in-block (c .before .loop .j) (s .pre .0 .order) (s .pre .1 .order) (s .pre .2) (c .loop-test .taken)
+abbrev P : tie.In-loop Inv-loop μ-loop → ℕ
+P c = c .before .before .before .before .args .i * c .before .before .before .before .args .fb .order + c .before .loop .j
+
+room : (c : tie.In-loop Inv-loop μ-loop) → P c < 256
+room c = let s = c .before .before .before .before in in-block (c .before .loop .j) (s .pre .0 .order) (s .pre .1 .order) (s .pre .2) (c .loop-test .taken)
 
 mul-e : tie.Need-mul-e Inv-loop μ-loop
 mul-e c = let h = room c in omega arith
@@ -40,7 +43,7 @@ add-e : tie.Need-add-e Inv-loop μ-loop
 add-e c = let h = room c in omega arith
 
 sign-at-requires : tie.Need-sign-at-requires Inv-loop μ-loop
-sign-at-requires c κs = let s = c .before .before .before in (s .pre .0, s .pre .2)
+sign-at-requires c κs = let s = c .before .before .before .before in (s .pre .0, s .pre .2)
 
 mul-out-at : tie.Need-mul-out-at Inv-loop μ-loop
 mul-out-at c = let h = room (c .before .before) in omega arith
@@ -48,29 +51,29 @@ mul-out-at c = let h = room (c .before .before) in omega arith
 element-copy-out-out-at : tie.Need-element-copy-out-out-at Inv-loop μ-loop
 element-copy-out-out-at c = let h = room (c .before .before) in omega arith
 
-abbrev P : tie.In-loop Inv-loop μ-loop → ℕ
-P c = c .before .before .before .args .i * c .before .before .before .args .fb .order + c .before .loop .j
-
 abbrev F : tie.In-loop Inv-loop μ-loop → ℤ
-F c = let s = c .before .before .before in outOf (s .args .col .now) (s .args .fa) (s .args .row .now) (s .args .fb) (s .args .x .now) (P c)
+F c = let s = c .before .before .before .before in outOf (s .args .col .now) (s .args .fa) (s .args .row .now) (s .args .fb) (s .args .x .now) (P c)
 
-sign : (c : tie.After-sign-at Inv-loop μ-loop) → toZ w32 (ofZ w32 (c .sign-at .result)) ≡ signAt (c .before .before .before .before .args .col .now) (c .before .before .before .before .args .fa) (c .before .before .before .before .args .i)
+sign : (c : tie.After-sign-at Inv-loop μ-loop) → toZ w32 (ofZ w32 (c .sign-at .result)) ≡ signAt (c .before .before .before .before .before .args .col .now) (c .before .before .before .before .before .args .fa) (c .before .before .before .before .before .args .i)
 sign c = back w32 _ (c .sign-at .ok) ∙ c .sign-at .ensures
+
+-- the element, which this row has not written yet
+own : (c : tie.In-loop Inv-loop μ-loop) → toZ w32 (ofZ w32 (at (c .before .loop .x) (P c))) ≡ at (c .before .before .before .before .args .x .now) (P c)
+own c = let l = c .before .loop in let s = c .before .before .before .before in reads w32 (l .inv .2 .small (P c)) tt ∙ row-ahead _ (s .args .fb .order) (s .args .i) (l .j) (s .args .x .now) (l .inv .1)
 
 out-at-requires : tie.Need-out-at-requires Inv-loop μ-loop
 out-at-requires c κs =
     let l = c .before .before .before in
-    let s = l .before .before .before in
-    let x = s .pre .3 .small (P l) in
-    rw (sign (c .before .before), l .before .before .sums-at .ensures, reads w32 x tt)
-    (s .pre .1, l .loop-test .taken, s .pre .0 .sign (s .args .i) (s .pre .2), sums-small (s .pre .0) (s .args .i) (s .pre .2) (s .args .fb .order) (s .pre .3), x)
+    let s = l .before .before .before .before in
+    rw (sign (c .before .before), l .before .before .sums-at .ensures, own l)
+    (s .pre .1, l .loop-test .taken, s .pre .0 .sign (s .args .i) (s .pre .2), sums-small (s .pre .0) (s .args .i) (s .pre .2) (s .args .fb .order) (s .pre .3), s .pre .3 .small (P l))
 
 value : (c : tie.After-out-at Inv-loop μ-loop) → toZ w64 (ofZ w64 (c .out-at .result)) ≡ F (c .before .before .before .before)
 value c =
     let l = c .before .before .before .before in
-    let s = l .before .before .before in
+    let s = l .before .before .before .before in
     back w64 _ (c .out-at .ok) ∙ c .out-at .ensures
-    ∙ rw (sign (c .before .before .before), l .before .before .sums-at .ensures, reads w32 (s .pre .3 .small (P l)) tt)
+    ∙ rw (sign (c .before .before .before), l .before .before .sums-at .ensures, own l)
     (sym (out-here (s .args .col .now) (s .args .fa) (s .args .row .now) (s .args .fb) (s .args .x .now) (s .args .i) (l .before .loop .j) (l .loop-test .taken)))
 
 is-within-requires : tie.Need-is-within-requires Inv-loop μ-loop
@@ -91,14 +94,14 @@ returns c =
 held : (c : tie.Else1 Inv-loop μ-loop) → Within bound (F (c .before .before .before .before .before .before))
 held c = test-yes bound (value (c .before .before)) (c .before .is-within .ensures) (not-false _ (c .if1 .left))
 
-cast-y : tie.Need-cast-y Inv-loop μ-loop
-cast-y c = rw (value (c .before .before)) (fits (held c) tt)
+cast-x : tie.Need-cast-x Inv-loop μ-loop
+cast-x c = rw (value (c .before .before)) (fits (held c) tt)
 
 mul-t15 : tie.Need-mul-t15 Inv-loop μ-loop
 mul-t15 c = let h = room (c .before .before .before .before .before .before) in omega arith
 
-element-set-from-y : tie.Need-element-set-from-y Inv-loop μ-loop
-element-set-from-y c = let h = room (c .before .before .before .before .before .before) in omega arith
+element-set-from-x : tie.Need-element-set-from-x Inv-loop μ-loop
+element-set-from-x c = let h = room (c .before .before .before .before .before .before) in omega arith
 
 add-j : tie.Need-add-j Inv-loop μ-loop
 add-j c = omega arith
@@ -112,12 +115,12 @@ loop-again c =
     let l = c .before .before .before .before .before .before .before .loop in (
       omega arith,
       rw (add-one, value (c .before .before), reads w32 (held c) tt, l .inv .1),
-      rw (value (c .before .before), reads w32 (held c) tt) (numbers-set (l .y) (P (c .before .before .before .before .before .before)) (l .inv .2) (held c)),
+      rw (value (c .before .before), reads w32 (held c) tt) (numbers-set (l .x) (P (c .before .before .before .before .before .before)) (l .inv .2) (held c)),
     )
 
 returns-2 : tie.Need-returns-2 Inv-loop μ-loop
 returns-2 c =
-    let s = c .before .before .before in
+    let s = c .before .before .before .before in
     let l = c .before .loop in
     let e : l .j ≡ s .args .fb .order = omega arith in
     record {
@@ -141,9 +144,9 @@ weigh-row-spec =
     out-at-requires
     is-within-requires
     returns
-    cast-y
+    cast-x
     mul-t15
-    element-set-from-y
+    element-set-from-x
     add-j
     loop-less
     loop-again
