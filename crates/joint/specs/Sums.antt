@@ -17,7 +17,7 @@ use Rattle.whole.specs.Machine.{within-le, within-+, within--, within-*}
 use Rattle.whole.specs.Sum.{sum, sum-cong, sum-within}
 use Rattle.rules.specs.Numbers.{mostEntry, mostAllowance, at}
 use Rattle.rules.specs.Stages.{fill}
-use Rattle.rules.specs.Laws.Lists.{length-fill, fill-at, fill-past, same-list, set-at, set-other}
+use Rattle.rules.specs.Laws.Lists.{length-fill, fill-at, fill-past, fill-same, same-list, set-at, set-other}
 use Rattle.rules.specs.Laws.Rect.{row-of, col-of}
 use Rattle.factor.specs.declared.Row.{Row}
 use Rattle.factor.specs.Reach.{Numbers, RowIn, numbers-set}
@@ -179,6 +179,21 @@ pub joint-small : {a : List ℤ} {r : Row} {m : ℕ} {own up x : ℤ} {v : List 
     Within (16 * (mostEntry * mostColumn) + mostEntry * mostEntry * mostAllowance) (jointSum a r m own up v x)
 unfolding jointSum
 joint-small {v} h u q g = within-- (across-small h (at v) (q .small)) (within-* (within-* u (h .small)) g)
+
+-- ---- V of row m looks at row m of the block, and at the rows that row m has entries for
+pub record SameRows (r : Row) (m n : ℕ) (x y : List ℤ) : Type 0 where
+  pub left : (j k : ℕ) → j < r .left → k < n → at x (j * n + k) ≡ at y (j * n + k)
+  pub own : (k : ℕ) → k < n → at x (m * n + k) ≡ at y (m * n + k)
+  pub right : (j k : ℕ) → j < r .right → k < n → at x ((suc m + j) * n + k) ≡ at y ((suc m + j) * n + k)
+
+pub columns-same : (a : List ℤ) {r : Row} {m : ℕ} (own : ℤ) {n : ℕ} {x y : List ℤ} → SameRows r m n x y → columnSums a r m own x n ≡ columnSums a r m own y n
+unfolding columnSums entriesSum
+columns-same a {r} {m} own {n} h =
+    fill-same n _ _ (replicate 16 (pos 0))
+    (λ k l.
+    ap₂ _+ℤ_
+    (ap₂ _+ℤ_ (sum-cong (r .left) _ _ (λ j b. rw (h .left j k b l))) (sum-cong (r .right) _ _ (λ j b. rw (h .right j k b l))))
+    (rw (h .own k l)))
 
 -- ---- V kept up to date: the number of row m in column j became z
 entries-cong : {a : List ℤ} {r : Row} {m : ℕ} {own : ℤ} → Band a r m own → (f g : ℕ → ℤ) → ((l : ℕ) → l ≢ m → f l ≡ g l) → entriesSum a r m f ≡ entriesSum a r m g

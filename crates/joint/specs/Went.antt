@@ -1,23 +1,27 @@
 -- A ROW OF ELEMENTS IN m TURNS: what the block becomes where every number made on the way is in bound, or the turn that makes one beyond it.
 use mathlib.Core.Bool.{Bool, true, false}
 use mathlib.Core.List.{List}
-use mathlib.Core.Path.{_≡_, refl, ap, _∙_, subst}
+use mathlib.Core.Path.{_≡_, refl, sym, ap, _∙_, subst}
 use Prim.Native.Nat.{ℕ, zero, suc, _+_, _*_, _≤_, _<_}
 use native.Mathlib.Nat.{add-suc, add-zero}
 use native.Mathlib.Nat as NatL
 use native.Mathlib.Omega.{arith}
 use lib.Dec.{leb}
-use lib.IntN.{ℤ, natAbs}
+use lib.IntN.{ℤ, pos, natAbs}
 use lib.ListN.{length}
-use Rattle.rules.specs.Numbers.{at}
+use Rattle.rules.specs.Numbers.{unit, at}
 use Rattle.rules.specs.Stages.{fill, inside}
 use Rattle.rules.specs.Laws.Good.{Permutes}
 use Rattle.rules.specs.Laws.Rect.{row-of, col-of}
 use Rattle.factor.specs.declared.Spot.{Spot}
+use Rattle.factor.specs.declared.Way.{Way}
+use Rattle.factor.specs.declared.Way.the-variants.{Applied, Allowed}
+use Rattle.factor.specs.Spots.{rowOf}
 use Rattle.factor.specs.Reach.{Numbers, beyond-there}
 use Rattle.factor.specs.Walks.{walk, walk-other, walk-stays}
-use Rattle.joint.specs.Elements.{signAt, sumsAt, outAt, backAt, outOf, backOf}
-use Rattle.joint.specs.Sizes.{sizeSums, wholeRow, allowAt, allowOf}
+use Rattle.joint.specs.Sums.{SameRows, columns-same}
+use Rattle.joint.specs.Elements.{signAt, ownOf, sumsAt, outAt, backAt, outOf, backOf}
+use Rattle.joint.specs.Sizes.{sizesOf, sideBySide, sizeSums, wholeRow, allowAt, allowOf, newOf}
 
 pub record Stuck (most : ℕ) (step : List ℤ → ℕ → ℤ) (q : ℕ → ℕ) (m : ℕ) (x : List ℤ) : Type 0 where
   pub turn : ℕ
@@ -82,6 +86,16 @@ pub allow-here : (c : List ℤ) (fa : Spot) (r : List ℤ) (fb : Spot) (x : List
 unfolding allowOf
 allow-here c fa r fb x i j l = rw (row-of 0 (fb .order) i j l, col-of 0 (fb .order) i j l)
 
+-- row i of a block is made of what it looks at; magnitudes side by side leave that as it is
+pub new-same : (way : Way) (c : List ℤ) (fa : Spot) (r : List ℤ) (fb : Spot) {x y : List ℤ} (i j : ℕ) → j < fb .order → SameRows (rowOf fa i) i (fb .order) x y →
+    newOf way c fa r fb x (i * fb .order + j) ≡ newOf way c fa r fb y (i * fb .order + j)
+unfolding newOf
+new-same Applied c fa r fb {x} {y} i j l h =
+    out-here c fa r fb x i j l ∙ rw (columns-same c (ownOf (signAt c fa i)) h, h .own j l) (sym (out-here c fa r fb y i j l))
+new-same Allowed c fa r fb {x} {y} i j l h =
+    let beside : SameRows (sideBySide (rowOf fa i)) i (fb .order) x y = record { left = h .left; own = h .own; right = h .right } in
+    allow-here c fa r fb x i j l ∙ rw (columns-same (sizesOf c (rowOf fa i)) (pos unit) beside, h .own j l) (sym (allow-here c fa r fb y i j l))
+
 -- a place of a block of at most 16 by 16
 pub in-block : {a b i : ℕ} (j : ℕ) → a ≤ 16 → b ≤ 16 → i < a → j < b → i * b + j < 256
 in-block {a} {b} {i} j p q l k = let h : suc i ≤ 16 = omega arith in omega (arith, NatL.mul-le-mul-right b h)
@@ -107,9 +121,6 @@ pub row-on : (step : List ℤ → ℕ → ℤ) (p : ℕ → ℕ) (n i : ℕ) (q 
 row-on step p n i q x e w w′ =
     w′ ∙ ap (walk step q n) w ∙ walk-on step p q (i * n) n x e
     ∙ (let z : i * n + n ≡ (i + 1) * n = omega arith in ap (λ (m : ℕ). walk step p m x) z)
-
-pub same-permutes : (n : ℕ) → Permutes n (λ e. e)
-same-permutes n = record { from = λ e. e; below = λ e l. l; from-below = λ e l. l; to-from = λ e l. refl; from-to = λ e l. refl }
 
 -- before the first row
 pub no-row : (step : List ℤ → ℕ → ℤ) (p : ℕ → ℕ) (n : ℕ) (x : List ℤ) → x ≡ walk step p (0 * n) x
