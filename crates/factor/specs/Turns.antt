@@ -16,8 +16,8 @@ use Rattle.factor.specs.declared.Row.{Row}
 use Rattle.factor.specs.declared.Spot.{Spot}
 use Rattle.factor.specs.Spots.{placeOf, rowBy, rowOf}
 
-same : (n : ℕ) → Permutes n (λ t. t)
-same n = record { from = λ e. e; below = λ e l. l; from-below = λ e l. l; to-from = λ e l. refl; from-to = λ e l. refl }
+pub same-permutes : (n : ℕ) → Permutes n (λ t. t)
+same-permutes n = record { from = λ e. e; below = λ e l. l; from-below = λ e l. l; to-from = λ e l. refl; from-to = λ e l. refl }
 
 -- round from the row after r: places below n - 1 - r are those after r, the others those up to r
 module _ (n r : ℕ) (b : r < n) where
@@ -74,8 +74,8 @@ module _ (n r : ℕ) (b : r < n) where
 
 pub places-permute : (kind : Kind) (n r : ℕ) → r < n → Permutes n (placeOf kind n r)
 unfolding placeOf
-places-permute Permutation n r b = same n
-places-permute Lower n r b = same n
+places-permute Permutation n r b = same-permutes n
+places-permute Lower n r b = same-permutes n
 places-permute Upper n r b = record {
   from = λ e. n - suc e;
   below = λ e l. omega arith;

@@ -12,13 +12,14 @@ use lib.ListN.{length}
 use Rattle.rules.specs.Numbers.{unit, at}
 use Rattle.rules.specs.Stages.{fill, inside}
 use Rattle.rules.specs.Laws.Good.{Permutes}
+use Rattle.rules.specs.Laws.Lists.{length-fill, fill-at, fill-past, same-list}
 use Rattle.rules.specs.Laws.Rect.{row-of, col-of}
 use Rattle.factor.specs.declared.Spot.{Spot}
 use Rattle.factor.specs.declared.Way.{Way}
 use Rattle.factor.specs.declared.Way.the-variants.{Applied, Allowed}
 use Rattle.factor.specs.Spots.{rowOf}
 use Rattle.factor.specs.Reach.{Numbers, beyond-there}
-use Rattle.factor.specs.Walks.{walk, walk-other, walk-stays}
+use Rattle.factor.specs.Walks.{walk, length-walk, walk-other, walk-stays}
 use Rattle.joint.specs.Sums.{SameRows, columns-same}
 use Rattle.joint.specs.Elements.{signAt, ownOf, sumsAt, outAt, backAt, outOf, backOf}
 use Rattle.joint.specs.Sizes.{sizesOf, sideBySide, sizeSums, wholeRow, allowAt, allowOf, newOf}
@@ -28,10 +29,11 @@ pub record Stuck (most : ℕ) (step : List ℤ → ℕ → ℤ) (q : ℕ → ℕ
   pub before : turn < m
   pub far : leb (natAbs (step (walk step q turn x) (q turn))) most ≡ false
 
--- x before, y after
+-- x before, y after; y is as long as x, whether a number was beyond the bound or not
 pub record Went (most : ℕ) (step : List ℤ → ℕ → ℤ) (q : ℕ → ℕ) (m : ℕ) (x y : List ℤ) (ok : Bool) : Type 0 where
   pub through : ok ≡ true → (y ≡ walk step q m x) × Numbers most y
   pub stuck : ok ≡ false → Stuck most step q m x
+  pub keeps : length y ≡ length x
 
 -- the elements of row i of rows of n, in reading order
 abbrev pub inRow : ℕ → ℕ → ℕ → ℕ
@@ -41,10 +43,16 @@ inRow n i j = i * n + j
 abbrev pub plain : (ℕ → ℤ) → List ℤ → ℕ → ℤ
 plain f v e = f e
 
-pub walk-fill : (f : ℕ → ℤ) (n : ℕ) (x : List ℤ) → walk (plain f) (λ e. e) n x ≡ fill n f x
-unfolding walk fill
-walk-fill f zero x = refl
-walk-fill f (suc n) x = rw (walk-fill f n x)
+-- whatever the order
+pub walk-fill : {n : ℕ} {p : ℕ → ℕ} → Permutes n p → (f : ℕ → ℤ) (x : List ℤ) → n ≤ length x → walk (plain f) p n x ≡ fill n f x
+walk-fill {n} {p} h f x room =
+    same-list n _ _
+    (length-walk (plain f) p n x ∙ sym (length-fill n f x))
+    (λ e l.
+    let b = h .from-below e l in
+    ap (at (walk (plain f) p n x)) (sym (h .to-from e l)) ∙ walk-stays h (plain f) x room (h .from e) n b (omega arith) ∙ ap f (h .to-from e l)
+    ∙ sym (fill-at n f x e l room))
+    (λ e l. walk-other (plain f) p n x e (λ u b z. let k = h .below u b in omega arith) ∙ sym (fill-past n f x e l))
 
 pub plain-same : (f g : ℕ → ℤ) (q : ℕ → ℕ) (m : ℕ) (x : List ℤ) → ((u : ℕ) → u < m → f (q u) ≡ g (q u)) → walk (plain f) q m x ≡ walk (plain g) q m x
 unfolding walk
@@ -68,6 +76,7 @@ pub went-same : {most m : ℕ} {q : ℕ → ℕ} {x y : List ℤ} {ok : Bool} (f
 went-same {m} {q} {x} f g h w = record {
   through = λ t. (w .through t .0 ∙ plain-same f g q m x h, w .through t .1);
   stuck = λ t. let s = w .stuck t in record { turn = s .turn; before = s .before; far = rw (h (s .turn) (s .before)) at (s .far) };
+  keeps = w .keeps;
 }
 
 -- an element by its row and column

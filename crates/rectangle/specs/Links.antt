@@ -32,7 +32,7 @@ use Rattle.factor.specs.Turns.{places-permute, later-blind}
 use Rattle.factor.specs.Walks.{walk, walk-undoes}
 use Rattle.joint.specs.Sums.{inColumn, columnSums, jointSum}
 use Rattle.joint.specs.Elements.{signAt, ownOf, sumsAt, nudge, outAt, backAt, outOf, backOf}
-use Rattle.joint.specs.Sizes.{sizeSums, sizeSum, wholeRow, allowAt, allowOf}
+use Rattle.joint.specs.Sizes.{sizeSums, sizeSum, wholeRow, allowAt, allowOf, newOf}
 use Rattle.rectangle.specs.Multiples.{joint-whole}
 use Rattle.rectangle.specs.Moves.{sourceOf}
 use Rattle.rectangle.specs.Weights.{own-there, across-row, size-there, sizes-row-is}
@@ -101,10 +101,6 @@ module _ (c r : List ℤ) (n1 n2 a b : ℕ) where
     unfolding outOf outAt spotAt spotBy
     out-is x e l = ap₂ (λ (d z : ℤ). (d *ℤ at x e) +ℤ z) (sign-is e) (nudge-is x e l)
 
-    pub weigh-is : (x : List ℤ) → fill (n1 * n2) (outOf c (spotAt c n1 a) r (spotAt r n2 b) x) x ≡ forward nearest (n1 * n2) (jointStage n1 n2 (factorAt c n1 a) (factorAt r n2 b)) x
-    unfolding forward
-    weigh-is x = fill-same (n1 * n2) _ _ x (out-is x) ∙ ap (λ (t : Stage). forward nearest (n1 * n2) t x) (sym (weighing q))
-
     back-is : (x : List ℤ) (e : ℕ) → e < n1 * n2 →
         backOf c fa r fb x e ≡ jointSign n1 n2 A B e *ℤ (at x e -ℤ R nearest unit² (weighed (n1 * n2) (off (jointWeight n1 n2 A B) e) x))
     unfolding backOf backAt spotAt spotBy
@@ -142,9 +138,11 @@ module _ (c r : List ℤ) (n1 n2 a b : ℕ) where
       unfolding allowOf allowAt share spotAt spotBy
       allow-one x e l = ap₂ (λ (z : ℤ) (w : Bool). (at x e +ℤ ceiling unit² z) +ℤ cond w (pos 0) (pos 2048)) (sizes-are x e l) (share-is e l)
 
-      pub allow-is : (x : List ℤ) → fill (n1 * n2) (allowOf c (spotAt c n1 a) r (spotAt r n2 b) x) x ≡ allow nearest (n1 * n2) (jointStage n1 n2 (factorAt c n1 a) (factorAt r n2 b)) x
-      unfolding allow
-      allow-is x = fill-same (n1 * n2) _ _ x (allow-one x) ∙ ap (λ (t : Stage). allow nearest (n1 * n2) t x) (sym (weighing q))
+      -- EITHER WAY
+      pub weigh-is : (way : Way) (x : List ℤ) → fill (n1 * n2) (newOf way c (spotAt c n1 a) r (spotAt r n2 b) x) x ≡ takenBy way (n1 * n2) (jointStage n1 n2 (factorAt c n1 a) (factorAt r n2 b)) x
+      unfolding newOf takenBy forward allow
+      weigh-is Applied x = fill-same (n1 * n2) _ _ x (out-is x) ∙ ap (λ (t : Stage). forward nearest (n1 * n2) t x) (sym (weighing q))
+      weigh-is Allowed x = fill-same (n1 * n2) _ _ x (allow-one x) ∙ ap (λ (t : Stage). allow nearest (n1 * n2) t x) (sym (weighing q))
 
     -- UNDONE: the code's order is as good as the document's
     module _ (low : spotAt c n1 a .row < n1) (low′ : spotAt r n2 b .row < n2) where

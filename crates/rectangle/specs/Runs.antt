@@ -11,20 +11,13 @@ use Rattle.rules.specs.Factors.{factorAt, factorsFrom, factors}
 use Rattle.rules.specs.Stages.{Stage, Ran}
 use Rattle.rules.specs.Shapes.{jointStage, jointStages}
 use Rattle.rules.specs.Answers.{further, start, matching, pairChecked}
-use Rattle.rules.specs.Calls.{ranMemory}
 use Rattle.rules.specs.Laws.Cuts.{joints-append}
 use Rattle.rules.specs.Laws.Good.{AllGood}
 use Rattle.rules.specs.Laws.Kinds.{joints-good}
 use Rattle.laws.specs.Accepted.{Accepted, accepted-order, further-next, pair-read}
 use Rattle.laws.specs.Sound.{factors-split, factors-length, counts-agree, kinds-agree, sheets-match}
-use Rattle.factor.specs.Blocks.{ranOk, ranStage}
 use Rattle.factor.specs.Loops.{Listed}
-use Rattle.rectangle.specs.declared.runs.Outcome.{Outcome}
 use Rattle.rectangle.specs.Links.{Paired}
-
--- what a run gives, as the code holds it; a refused run holds the block that it was given
-abbrev pub outcome : Ran → List ℤ → Outcome
-outcome ran x = record { ok = ranOk ran; stage = ranStage ran; block = ranMemory ran x }
 
 -- ---- two checked sheets that match
 pub record Matched (c r : List ℤ) : Type 0 where

@@ -1,5 +1,7 @@
 // One stage of a rectangle: the factors at place i of a checked column sheet and at place j of a checked row sheet.
+ghost use mathlib.Core.Path.{_≡_};
 ghost use Prim.Native.Nat.{_*_};
+ghost use lib.ListN.{length};
 ghost use Rattle.rules.specs.Numbers.{bound};
 ghost use Rattle.rules.specs.Factors.{factorAt};
 ghost use Rattle.rules.specs.Stages.{nearest, undo};
@@ -10,8 +12,6 @@ ghost use Rattle.factor.specs.Steps.{Step};
 ghost use Rattle.rectangle.specs.Links.{Paired};
 use crate::moves::permute;
 use crate::moves::unpermute;
-use crate::steps::Stepped;
-use crate::steps::allow_weights;
 use crate::steps::unweigh;
 use crate::steps::weigh;
 use factor::Way;
@@ -27,21 +27,18 @@ pub fn take_pair(
     n2: usize,
     i: usize,
     j: usize,
-    x: [i32; 256],
-) -> Stepped
-    requires { ⌜ Paired (now col) (now row) n1 n2 i j × Numbers (limitOf way) x ⌝ }
-    ensures { λ s. ⌜ Step (limitOf way) (n1 * n2) (takenBy way (n1 * n2) (jointStage n1 n2 (factorAt (now (col .entry)) n1 i) (factorAt (now (row .entry)) n2 j)) x) x (s .ok) (s .block) ⌝ }
+    x: &mut [i32; 256],
+) -> bool
+    requires { ⌜ Paired (now col) (now row) n1 n2 i j × Numbers (limitOf way) (now x) × (length (now x) ≡ 256) ⌝ }
+    ensures { λ ok. ⌜ Step (limitOf way) (n1 * n2) (takenBy way (n1 * n2) (jointStage n1 n2 (factorAt (now (col .entry)) n1 i) (factorAt (now (row .entry)) n2 j)) (now (x .entry))) ok (now (x .exit)) × (length (now (x .exit)) ≡ 256) ⌝ }
 {
     let fa = spot_at(col, n1, i);
     let fb = spot_at(row, n2, j);
     if is_move(fa) {
-        let b = permute(col, fa, row, fb, x);
-        return Stepped { ok: true, block: b };
+        *x = permute(col, fa, row, fb, *x);
+        return true;
     }
-    match way {
-        Way::Applied => return weigh(col, fa, row, fb, x),
-        Way::Allowed => return allow_weights(col, fa, row, fb, x),
-    }
+    weigh(way, col, fa, row, fb, x)
 }
 
 // Undone.
@@ -52,16 +49,16 @@ pub fn undo_pair(
     n2: usize,
     i: usize,
     j: usize,
-    y: [i32; 256],
-) -> Stepped
-    requires { ⌜ Paired (now col) (now row) n1 n2 i j × Numbers bound y ⌝ }
-    ensures { λ s. ⌜ Step bound (n1 * n2) (undo nearest (n1 * n2) (jointStage n1 n2 (factorAt (now (col .entry)) n1 i) (factorAt (now (row .entry)) n2 j)) y) y (s .ok) (s .block) ⌝ }
+    x: &mut [i32; 256],
+) -> bool
+    requires { ⌜ Paired (now col) (now row) n1 n2 i j × Numbers bound (now x) × (length (now x) ≡ 256) ⌝ }
+    ensures { λ ok. ⌜ Step bound (n1 * n2) (undo nearest (n1 * n2) (jointStage n1 n2 (factorAt (now (col .entry)) n1 i) (factorAt (now (row .entry)) n2 j)) (now (x .entry))) ok (now (x .exit)) × (length (now (x .exit)) ≡ 256) ⌝ }
 {
     let fa = spot_at(col, n1, i);
     let fb = spot_at(row, n2, j);
     if is_move(fa) {
-        let b = unpermute(col, fa, row, fb, y);
-        return Stepped { ok: true, block: b };
+        *x = unpermute(col, fa, row, fb, *x);
+        return true;
     }
-    unweigh(col, fa, row, fb, y)
+    unweigh(col, fa, row, fb, x)
 }

@@ -1,17 +1,18 @@
 -- The block is as j turns leave it, and all of it is in bound; each turn makes the element from the tests and sums of row i (`link`).
 use borrow.Author.Tests.{not-true, not-false}
-use mathlib.Core.Path.{_≡_, refl, sym, _∙_}
+use mathlib.Core.Path.{_≡_, refl, sym, ap, _∙_}
 use Prim.Native.Nat.{ℕ, _+_, _-_, _*_, _≤_, _<_}
 use native.Mathlib.Numerals.{add-one}
 use native.Mathlib.Omega.{arith}
 use lib.IntN.{ℤ}
+use lib.ListN.{length}
 use mir.Syntax.{w32, w64}
 use mir.Val.{toZ, ofZ}
 use Rattle.whole.specs.Diff.{Within}
 use Rattle.whole.specs.Machine.{fits, reads, back}
 use Rattle.rules.specs.Numbers.{mostAllowance, at}
 use Rattle.factor.specs.Reach.{Numbers, numbers-set, test-no, test-yes}
-use Rattle.factor.specs.Walks.{walk}
+use Rattle.factor.specs.Walks.{walk, length-walk}
 use Prim.Native.Nat.{_%_}
 use Rattle.rules.specs.Laws.Rect.{col-of}
 use Rattle.joint.specs.Sizes.{allowAt, allowOf, size-sums-small}
@@ -98,6 +99,7 @@ returns c =
             rw (link (l .before .before) (l .before .loop .j) (l .loop-test .taken))
             (test-no mostAllowance (value (c .before .before)) (c .before .is-within .ensures) (not-true _ (c .if1 .taken)));
       };
+      keeps = ap length (l .before .loop .inv .1) ∙ length-walk _ _ (l .before .loop .j) _;
     }
 
 held : (c : tie.Else1 Inv-loop μ-loop) → Within mostAllowance (G (c .before .before .before .before .before .before .before) (P (c .before .before .before .before .before)))
@@ -135,6 +137,7 @@ returns-2 c =
     record {
       through = λ t. (l .inv .1 ∙ rw e (sym (plain-same _ _ _ (s .args .fb .order) _ (link (c .before .before)))), l .inv .2);
       stuck = λ t. let z : _≡_ {A = ℕ} 0 1 = cc in absurd (omega arith);
+      keeps = ap length (l .inv .1) ∙ length-walk _ _ (l .j) _;
     }
 
 pub allow-row-spec : {M : Type 1} → statement M

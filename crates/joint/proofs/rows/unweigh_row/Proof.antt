@@ -113,6 +113,7 @@ returns c =
             rw (← (p .before .before .loop .inv .1), ← (p .place-of .ensures))
             (test-no bound (value (c .before .before)) (c .before .is-within .ensures) (not-true _ (c .if1 .taken)));
       };
+      keeps = ap length (p .before .before .loop .inv .1) ∙ length-walk _ _ (p .before .before .loop .u) _;
     }
 
 held : (c : tie.Else1 Inv-loop μ-loop) → Within bound (F (c .before .before .before .before .before .before))
@@ -212,6 +213,7 @@ returns-2 c =
     record {
       through = λ t. (l .inv .1 ∙ rw e, l .inv .2);
       stuck = λ t. let z : _≡_ {A = ℕ} 0 1 = cc in absurd (omega arith);
+      keeps = ap length (l .inv .1) ∙ length-walk _ _ (l .u) _;
     }
 
 pub unweigh-row-spec : {M : Type 1} → statement M

@@ -1,17 +1,18 @@
 -- The block is as j turns leave it, and all of it is in bound.
 use borrow.Author.Tests.{not-true, not-false}
-use mathlib.Core.Path.{_≡_, refl, sym, _∙_}
+use mathlib.Core.Path.{_≡_, refl, sym, ap, _∙_}
 use Prim.Native.Nat.{ℕ, _+_, _-_, _*_, _≤_, _<_}
 use native.Mathlib.Numerals.{add-one}
 use native.Mathlib.Omega.{arith}
 use lib.IntN.{ℤ}
+use lib.ListN.{length}
 use mir.Syntax.{w32, w64}
 use mir.Val.{toZ, ofZ}
 use Rattle.whole.specs.Diff.{Within}
 use Rattle.whole.specs.Machine.{fits, reads, back}
 use Rattle.rules.specs.Numbers.{bound, at}
 use Rattle.factor.specs.Reach.{Numbers, numbers-set, test-no, test-yes}
-use Rattle.factor.specs.Walks.{walk}
+use Rattle.factor.specs.Walks.{walk, length-walk}
 use Rattle.joint.specs.Elements.{signAt, outOf, sums-small}
 use Rattle.joint.specs.Went.{plain, inRow, row-ahead, out-here, in-block}
 use Rattle.joint.proofs.rows.weigh_row.Statement.{statement}
@@ -89,6 +90,7 @@ returns c =
         before = l .loop-test .taken;
         far = test-no bound (value (c .before .before)) (c .before .is-within .ensures) (not-true _ (c .if1 .taken));
       };
+      keeps = ap length (l .before .loop .inv .1) ∙ length-walk _ _ (l .before .loop .j) _;
     }
 
 held : (c : tie.Else1 Inv-loop μ-loop) → Within bound (F (c .before .before .before .before .before .before))
@@ -126,6 +128,7 @@ returns-2 c =
     record {
       through = λ t. (l .inv .1 ∙ rw e, l .inv .2);
       stuck = λ t. let z : _≡_ {A = ℕ} 0 1 = cc in absurd (omega arith);
+      keeps = ap length (l .inv .1) ∙ length-walk _ _ (l .j) _;
     }
 
 pub weigh-row-spec : {M : Type 1} → statement M

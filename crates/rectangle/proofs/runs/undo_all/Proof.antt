@@ -1,15 +1,20 @@
 -- After t stages are undone the run is that of the stages before them, the last of them first (`turn-on`), and the block is in bound.
 use borrow.Author.Tests.{not-true, not-false}
+use mathlib.Core.Bool.{Bool}
+use mathlib.Core.List.{List}
 use mathlib.Core.Path.{_≡_, _∙_}
-use Prim.Native.Nat.{suc, _-_, _≤_}
+use Prim.Native.Nat.{suc, _-_, _*_, _≤_}
 use native.Mathlib.Omega.{arith}
+use lib.IntN.{ℤ}
+use lib.ListN.{length}
 use Rattle.rules.specs.Numbers.{bound, count}
 use Rattle.rules.specs.Stages.{nearest, undo, runInverse}
-use Rattle.rules.specs.Calls.{ranMemory}
+use Rattle.rules.specs.Factors.{factorAt}
+use Rattle.rules.specs.Shapes.{jointStage}
 use Rattle.rules.specs.Laws.Runs.{loop-start}
 use Rattle.laws.specs.Accepted.{order-counts, count-counts}
 use Rattle.laws.specs.Sound.{counts-agree}
-use Rattle.factor.specs.Blocks.{ranOk, ranStage}
+use Rattle.factor.specs.Blocks.{reached-done, reached-stop}
 use Rattle.factor.specs.Steps.{Step}
 use Rattle.factor.specs.Loops.{Stands, turn-on, turn-stop, turns-done}
 use Rattle.rectangle.specs.Links.{Paired}
@@ -18,11 +23,11 @@ use Rattle.rectangle.proofs.runs.undo_all.Statement.{statement}
 use Rattle.rectangle.proofs.runs.undo_all.Tie as tie
 
 abbrev Inv-loop : tie.InvT-loop
-Inv-loop col row y n1 n2 many v₀ t₀ v t =
-    (t ≤ many) × (n1 ≡ count col 0) × (n2 ≡ count row 0) × (many ≡ count col 1) × Stands bound (sizeOf col row) (undo nearest (sizeOf col row)) (behind col row) (runInverse nearest (sizeOf col row) (stagesOf col row) y) t v
+Inv-loop col row x₀ n1 n2 many t₀ x t =
+    (t ≤ many) × (n1 ≡ count col 0) × (n2 ≡ count row 0) × (many ≡ count col 1) × Stands bound (sizeOf col row) (undo nearest (sizeOf col row)) (behind col row) (runInverse nearest (sizeOf col row) (stagesOf col row) x₀) t x × (length x ≡ 256)
 
 abbrev μ-loop : tie.MeasureT-loop
-μ-loop col row y n1 n2 many v₀ t₀ v t = many - t
+μ-loop col row x₀ n1 n2 many t₀ x t = many - t
 
 -- the factors of this turn, counted from the last
 last : (c : tie.In-loop Inv-loop μ-loop) → c .before .before .count-at3 .result - 1 - c .before .loop .t ≡ count (c .before .before .before .before .before .args .col .now) 1 - suc (c .before .loop .t)
@@ -54,6 +59,7 @@ loop-holds c =
       c .before .count-at2 .ensures,
       c .count-at3 .ensures,
       record { small = s .pre .1; left = loop-start _ _ _ _ ∙ rw (behind-all (s .args .col .now) (s .args .row .now) (s .pre .0)) },
+      s .pre .2,
     )
 
 sub-f : tie.Need-sub-f Inv-loop μ-loop
@@ -70,29 +76,32 @@ start-of-requires-2 c κs =
     let l = c .before .before .loop in let s = c .before .before .before .before .before .before in (s .pre .0 .row, l .inv .2, omega (arith, l .inv .3, counts-agree _ _ (s .pre .0 .match)))
 
 undo-pair-requires : tie.Need-undo-pair-requires Inv-loop μ-loop
-undo-pair-requires c κs = (here c, c .before .before .before .loop .inv .4 .small)
+undo-pair-requires c κs = let l = c .before .before .before .before .loop in (here (c .before), l .inv .4 .small, l .inv .5)
 
 add-t15 : tie.Need-add-t15 Inv-loop μ-loop
 add-t15 c = let l = c .before .before .before .before .before .before .loop in omega arith
 
 -- the step, of the orders themselves
 told :
-    (c : tie.After-undo-pair Inv-loop μ-loop) →
-    let s = c .before .before .before .before .before .before .before .before in
-    let l = c .before .before .before .before .loop in
-    let N = sizeOf (s .args .col .now) (s .args .row .now) in
-    Step bound N (undo nearest N (at-stage (s .args .col .now) (s .args .row .now) (count (s .args .col .now) 1 - suc (l .t))) (l .v)) (l .v) (c .undo-pair .result .ok) (c .undo-pair .result .block)
-told c =
-    let l = c .before .before .before .before .loop in
-    rw (l .inv .1, l .inv .2, c .before .before .start-of .ensures, c .before .start-of2 .ensures, last (c .before .before .before)) at (c .undo-pair .ensures)
+    (c : tie.After-start-of2 Inv-loop μ-loop) {ok : Bool} {u : List ℤ} →
+    let a = c .before .before .before .before .before .before .before .args in
+    let l = c .before .before .before .loop in
+    let n1 = c .before .before .before .before .before .before .count-at .result in
+    let n2 = c .before .before .before .before .before .count-at2 .result in
+    let N = sizeOf (a .col .now) (a .row .now) in
+    Step bound (n1 * n2) (undo nearest (n1 * n2) (jointStage n1 n2 (factorAt (a .col .now) n1 (c .before .start-of .result)) (factorAt (a .row .now) n2 (c .start-of2 .result))) (l .x)) ok u →
+    Step bound N (undo nearest N (at-stage (a .col .now) (a .row .now) (count (a .col .now) 1 - suc (l .t))) (l .x)) ok u
+told c s =
+    let l = c .before .before .before .loop in
+    rw (l .inv .1, l .inv .2, c .before .start-of .ensures, c .start-of2 .ensures, last (c .before .before)) at s
 
 returns : tie.Need-returns Inv-loop μ-loop
-unfolding ranOk ranStage ranMemory
 returns c =
-    let i = c .before .before .before .before .before in
+    let f = c .before .before .before in
+    let i = f .before .before in
     let l = i .before .loop in
     let s = i .before .before .before .before .before in
-    rw (turn-stop (behind-listed (s .args .col .now) (s .args .row .now)) (l .t) (rw (l .inv .3) at (i .loop-test .taken)) (l .inv .4) (told (c .before .before)) (not-true _ (c .if1 .taken)))
+    (reached-stop (turn-stop (behind-listed (s .args .col .now) (s .args .row .now)) (l .t) (rw (l .inv .3) at (i .loop-test .taken)) (l .inv .4) (told f (c .before .undo-pair .ensures .0)) (not-true _ (c .if1 .taken))), c .before .undo-pair .ensures .1)
 
 add-t : tie.Need-add-t Inv-loop μ-loop
 add-t c = omega arith
@@ -102,24 +111,26 @@ loop-less c = omega arith
 
 loop-again : tie.Need-loop-again Inv-loop μ-loop
 loop-again c =
-    let i = c .before .before .before .before .before .before in
+    let f = c .before .before .before in
+    let i = f .before .before in
     let l = i .before .loop in
     let s = i .before .before .before .before .before in
-    let a = c .before .before .before in (
+    let w = told f (c .before .undo-pair .ensures .0) in
+    let y = not-false _ (c .if1 .left) in (
       omega arith,
       l .inv .1,
       l .inv .2,
       l .inv .3,
-      turn-on (behind-listed (s .args .col .now) (s .args .row .now)) (l .t) (rw (l .inv .3) at (i .loop-test .taken)) (l .inv .4) (told a) (not-false _ (c .before .if1 .left)),
+      turn-on (behind-listed (s .args .col .now) (s .args .row .now)) (l .t) (rw (l .inv .3) at (i .loop-test .taken)) (l .inv .4) w y,
+      c .before .undo-pair .ensures .1,
     )
 
 returns-2 : tie.Need-returns-2 Inv-loop μ-loop
-unfolding ranOk ranStage ranMemory
 returns-2 c =
     let l = c .before .loop in
     let s = c .before .before .before .before .before in
     let e : l .t ≡ count (s .args .col .now) 1 = omega (arith, l .inv .3) in
-    rw (turns-done (behind-listed (s .args .col .now) (s .args .row .now)) (rw e at (l .inv .4)))
+    (reached-done (turns-done (behind-listed (s .args .col .now) (s .args .row .now)) (rw e at (l .inv .4))), l .inv .5)
 
 pub undo-all-spec : {M : Type 1} → statement M
 undo-all-spec =

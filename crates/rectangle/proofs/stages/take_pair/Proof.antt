@@ -1,15 +1,16 @@
--- A pair of permutations and a pair of factors with weights are each the document's stage (`permute-is`, `weigh-is`, `allow-is`).
+-- A pair of permutations and a pair of factors with weights are each the document's stage (`permute-is`, `weigh-is`).
 use mathlib.Core.Logic.{_≢_}
-use mathlib.Core.Path.{_≡_, _∙_, sym}
+use mathlib.Core.Path.{_≡_, sym, ap, _∙_}
+use lib.ListN.{length}
 use Rattle.rules.specs.declared.Kind.the-variants.{Permutation}
 use Rattle.rules.specs.Numbers.{count}
 use Rattle.rules.specs.Sheets.{kindOf}
-use Rattle.factor.specs.Ways.{limitOf, takenBy}
+use Rattle.rules.specs.Laws.Lists.{length-fill}
 use Rattle.factor.specs.Spots.{spotBy, spotAt}
 use Rattle.factor.specs.Reach.{numbers-fill}
 use Rattle.factor.specs.Steps.{step-moves}
-use Rattle.factor.specs.Lies.{lies, moves, kind-yes, kind-no}
-use Rattle.rectangle.specs.Links.{permute-is, weigh-is, allow-is}
+use Rattle.factor.specs.Lies.{lies, moves, kind-yes, kind-no, row-inside}
+use Rattle.rectangle.specs.Links.{permute-is, weigh-is}
 use borrow.Author.Needs.{needs}
 use Rattle.rectangle.proofs.stages.take_pair.Statement.{statement}
 use Rattle.rectangle.proofs.stages.take_pair.Tie as tie
@@ -31,61 +32,41 @@ no-kind c = kind-no (c .before .before .before .before .pre .0 .column) (c .befo
 
 permute-requires : tie.Need-permute-requires
 permute-requires c κs =
-    let s = c .before .before .before .before in
+    let t = c .before in
+    let s = t .before .before .before .before in
     let p = s .pre .0 in
-    let q = yes-kind c in
-    rw (c .before .before .before .spot-at .ensures, c .before .before .spot-at2 .ensures) (moves (p .most1) (p .column) q, moves (p .most2) (p .row) (sym (p .match) ∙ q))
+    let q = yes-kind t in
+    rw (t .before .before .before .spot-at .ensures, t .before .before .spot-at2 .ensures) (moves (p .most1) (p .column) q, moves (p .most2) (p .row) (sym (p .match) ∙ q))
 
 returns : tie.Need-returns
 unfolding spotAt spotBy
 returns c =
-    let s = c .before .before .before .before .before in
-    let q = yes-kind (c .before) in
-    step-moves (c .permute .ensures ∙ rw (c .before .before .before .before .spot-at .ensures, c .before .before .before .spot-at2 .ensures)) (permute-is _ _ _ _ _ _ (s .pre .0 .match) q (s .args .way) (s .args .x)) (numbers-fill _ _ (s .pre .1) (λ e. s .pre .1 .small _))
-
-enum-told : tie.Need-enum-told
-enum-told c = search needs
+    let t = c .before .before in
+    let s = t .before .before .before .before in
+    let q = yes-kind t in
+    let e = rw (t .before .before .before .spot-at .ensures, t .before .before .spot-at2 .ensures) at (c .permute .ensures) in
+    (step-moves e (permute-is _ _ _ _ _ _ (s .pre .0 .match) q (s .args .way) (s .args .x .now)) (numbers-fill _ _ (s .pre .1) (λ e. s .pre .1 .small _)),
+    ap length e ∙ length-fill _ _ (s .args .x .now) ∙ s .pre .2)
 
 weigh-requires : tie.Need-weigh-requires
-unfolding limitOf
+unfolding spotAt spotBy
 weigh-requires c κs =
-    let e = c .before .before in
+    let e = c .before in
     let s = e .before .before .before .before in
     let p = s .pre .0 in
     let q = no-kind e in
     rw (e .before .before .before .spot-at .ensures, e .before .before .spot-at2 .ensures)
-    (lies (p .most1) (p .column) q, lies (p .most2) (p .row) (λ z. q (p .match ∙ z)), rw (c .enum-told .given .1) at (s .pre .1))
+    (lies (p .most1) (p .column) q, lies (p .most2) (p .row) (λ z. q (p .match ∙ z)), row-inside (p .some1) (p .column), s .pre .1, s .pre .2)
 
 returns-2 : tie.Need-returns-2
-unfolding spotAt spotBy limitOf takenBy
+unfolding spotAt spotBy
 returns-2 c =
-    let e = c .before .before .before in
-    let s = e .before .before .before .before in
-    let p = s .pre .0 in
-    rw (c .before .enum-told .given .1)
-    (rw (e .before .before .before .spot-at .ensures, e .before .before .spot-at2 .ensures, weigh-is _ _ _ _ _ _ (p .column) (p .row) (p .match) (no-kind e) (p .most2) (s .args .x)) at (c .weigh .ensures))
-
-enum-told-2 : tie.Need-enum-told-2
-enum-told-2 c = search needs
-
-allow-weights-requires : tie.Need-allow-weights-requires
-unfolding limitOf
-allow-weights-requires c κs =
     let e = c .before .before in
     let s = e .before .before .before .before in
-    let p = s .pre .0 in
-    let q = no-kind e in
-    rw (e .before .before .before .spot-at .ensures, e .before .before .spot-at2 .ensures)
-    (lies (p .most1) (p .column) q, lies (p .most2) (p .row) (λ z. q (p .match ∙ z)), rw (c .enum-told2 .given .1) at (s .pre .1))
-
-returns-3 : tie.Need-returns-3
-unfolding spotAt spotBy limitOf takenBy
-returns-3 c =
-    let e = c .before .before .before in
-    let s = e .before .before .before .before in
-    let p = s .pre .0 in
-    rw (c .before .enum-told2 .given .1)
-    (rw (e .before .before .before .spot-at .ensures, e .before .before .spot-at2 .ensures, allow-is _ _ _ _ _ _ (p .column) (p .row) (p .match) (no-kind e) (p .most2) (p .most1) (s .args .x)) at (c .allow-weights .ensures))
+    let p = s .pre .0 in (
+      rw (e .before .before .before .spot-at .ensures, e .before .before .spot-at2 .ensures, weigh-is _ _ _ _ _ _ (p .column) (p .row) (p .match) (no-kind e) (p .most2) (p .most1) (s .args .way) (s .args .x .now)) at (c .weigh .ensures .0),
+      c .weigh .ensures .1,
+    )
 
 pub take-pair-spec : {M : Type 1} → statement M
 take-pair-spec =
@@ -96,9 +77,5 @@ take-pair-spec =
     is-move-requires
     permute-requires
     returns
-    enum-told
     weigh-requires
-    returns-2
-    enum-told-2
-    allow-weights-requires
-    returns-3)
+    returns-2)

@@ -1,5 +1,4 @@
 -- The block is as the rows of s turns leave it, and all of it is in bound.
-use borrow.Author.Needs.{needs}
 use borrow.Author.Tests.{not-true, not-false}
 use mathlib.Core.List.{List}
 use mathlib.Core.Path.{_≡_, refl, ap, _∙_}
@@ -22,10 +21,10 @@ use Rattle.rectangle.proofs.steps.unweigh.Statement.{statement}
 use Rattle.rectangle.proofs.steps.unweigh.Tie as tie
 
 abbrev Inv-loop : tie.InvT-loop
-Inv-loop col fa row fb y n x₀ s₀ x s = (s ≤ n) × (x ≡ walk (backOf col fa row fb) (pairPlace fa fb) (s * fb .order) y) × Numbers bound x
+Inv-loop col fa row fb x₀ n s₀ x s = (s ≤ n) × (x ≡ walk (backOf col fa row fb) (pairPlace fa fb) (s * fb .order) x₀) × Numbers bound x
 
 abbrev μ-loop : tie.MeasureT-loop
-μ-loop col fa row fb y n x₀ s₀ x s = n - s
+μ-loop col fa row fb x₀ n s₀ x s = n - s
 
 loop-holds : tie.Need-loop-holds Inv-loop μ-loop
 loop-holds c = (omega arith, no-row _ _ _ _, c .pre .4)
@@ -34,7 +33,7 @@ place-of-requires : tie.Need-place-of-requires Inv-loop μ-loop
 place-of-requires c κs = (c .loop-test .taken, c .before .before .pre .2)
 
 abbrev W : tie.Start Inv-loop μ-loop → ℕ → List ℤ
-W s m = walk (backOf (s .args .col .now) (s .args .fa) (s .args .row .now) (s .args .fb)) (pairPlace (s .args .fa) (s .args .fb)) m (s .args .y)
+W s m = walk (backOf (s .args .col .now) (s .args .fa) (s .args .row .now) (s .args .fb)) (pairPlace (s .args .fa) (s .args .fb)) m (s .args .x .now)
 
 abbrev N : tie.Start Inv-loop μ-loop → ℕ
 N s = s .args .fa .order * s .args .fb .order
@@ -45,11 +44,12 @@ permutes s =
     (places-permute (s .args .fa .kind) (s .args .fa .order) (s .args .fa .row) (s .pre .2))
     (places-permute (s .args .fb .kind) (s .args .fb .order) (s .args .fb .row) (s .pre .3))
 
-len : (s : tie.Start Inv-loop μ-loop) → length (s .args .y) ≡ 256
-len s = search needs
+room : (s : tie.Start Inv-loop μ-loop) → N s ≤ length (s .args .x .now)
+room s = omega (arith, mul-le-mul (s .pre .0 .order) (s .pre .1 .order), s .pre .5)
 
-room : (s : tie.Start Inv-loop μ-loop) → N s ≤ length (s .args .y)
-room s = omega (arith, mul-le-mul (s .pre .0 .order) (s .pre .1 .order), len s)
+-- the block keeps its length
+long : (l : tie.At-loop Inv-loop μ-loop) → length (l .loop .x) ≡ 256
+long l = let s = l .before in ap length (l .loop .inv .1) ∙ length-walk _ _ (l .loop .s * s .args .fb .order) _ ∙ s .pre .5
 
 -- the elements of the row of this turn
 abbrev Q : (c : tie.After-place-of Inv-loop μ-loop) → ℕ → ℕ
@@ -68,18 +68,19 @@ unweigh-row-requires c κs =
       rw (p .place-of .ensures) (places-permute (s .args .fa .kind) (s .args .fa .order) (s .args .fa .row) (s .pre .2) .below (p .before .before .loop .s) (p .before .loop-test .taken)),
       s .pre .3,
       p .before .before .loop .inv .2,
-      ap length (p .before .before .loop .inv .1) ∙ length-walk _ _ (p .before .before .loop .s * s .args .fb .order) _ ∙ len s,
+      long (p .before .before),
     )
 
 returns : tie.Need-returns Inv-loop μ-loop
 returns c =
     let p = c .before .before .before in
     let s = p .before .before .before in
-    let l = p .before .before .loop in
-    step-stops
-    (row-stuck (permutes s) bound (backOf (s .args .col .now) (s .args .fa) (s .args .row .now) (s .args .fb)) (s .args .y) (room s) (s .args .fa .order) (s .args .fb .order) (l .s) (Q p) refl
-    (p .before .loop-test .taken) (turns p) (l .inv .1) (c .before .unweigh-row .ensures .stuck (not-true _ (c .if1 .taken))))
-    (s .pre .4)
+    let l = p .before .before .loop in (
+      step-stops
+          (row-stuck (permutes s) bound (backOf (s .args .col .now) (s .args .fa) (s .args .row .now) (s .args .fb)) (s .args .x .now) (room s) (s .args .fa .order) (s .args .fb .order) (l .s) (Q p) refl
+          (p .before .loop-test .taken) (turns p) (l .inv .1) (c .before .unweigh-row .ensures .stuck (not-true _ (c .if1 .taken)))),
+      c .before .unweigh-row .ensures .keeps ∙ long (p .before .before),
+    )
 
 add-s : tie.Need-add-s Inv-loop μ-loop
 add-s c = omega arith
@@ -93,7 +94,7 @@ loop-again c =
     let s = p .before .before .before in
     let l = p .before .before .loop in
     let w = c .before .unweigh-row .ensures .through (not-false _ (c .if1 .left)) in
-    (omega arith, row-on (backOf (s .args .col .now) (s .args .fa) (s .args .row .now) (s .args .fb)) (pairPlace (s .args .fa) (s .args .fb)) (s .args .fb .order) (l .s) (Q p) (s .args .y) (turns p) (l .inv .1) (w .0), w .1)
+    (omega arith, row-on (backOf (s .args .col .now) (s .args .fa) (s .args .row .now) (s .args .fb)) (pairPlace (s .args .fa) (s .args .fb)) (s .args .fb .order) (l .s) (Q p) (s .args .x .now) (turns p) (l .inv .1) (w .0), w .1)
 
 returns-2 : tie.Need-returns-2 Inv-loop μ-loop
 returns-2 c =
@@ -101,7 +102,7 @@ returns-2 c =
     let l = c .before .loop in
     let e : l .s ≡ s .args .fa .order = omega arith in
     let x : l .x ≡ W s (N s) = l .inv .1 ∙ ap (λ (k : ℕ). W s (k * s .args .fb .order)) e in
-    step-goes x (l .inv .2)
+    (step-goes x (l .inv .2), long (c .before))
 
 pub unweigh-spec : {M : Type 1} → statement M
 unweigh-spec =
