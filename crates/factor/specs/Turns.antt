@@ -14,7 +14,7 @@ use Rattle.rules.specs.Factors.{Factor, hasEntry, matrix}
 use Rattle.rules.specs.Laws.Good.{Permutes}
 use Rattle.factor.specs.Spots.{placeOf}
 
-same : (n : ℕ) → Permutes n (λ t. t)
+pub same : (n : ℕ) → Permutes n (λ t. t)
 same n = record { from = λ e. e; below = λ e l. l; from-below = λ e l. l; to-from = λ e l. refl; from-to = λ e l. refl }
 
 -- round from the row after r: places below n - 1 - r are those after r, the others those up to r

@@ -21,4 +21,4 @@ module _ {c r : List ℤ} {fa fb : Spot} (h : Moves c fa) (k : Moves r fb) where
   unfolding sourceOf
   source-below e l =
       omega
-      (arith, few, place-below (fa .order) (fb .order) _ _ (h .below _ (row-below (fa .order) (fb .order) e l)) (k .below _ (col-below (fa .order) (fb .order) e l)))
+      (arith, few, place-below (fa .order) (fb .order) _ _ (h .permutes .below _ (row-below (fa .order) (fb .order) e l)) (k .permutes .below _ (col-below (fa .order) (fb .order) e l)))

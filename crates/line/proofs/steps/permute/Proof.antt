@@ -27,10 +27,10 @@ count-at-requires : tie.Need-count-at-requires Inv-loop μ-loop
 count-at-requires c κs = c .before .before .pre .counts (c .before .loop .e) (c .loop-test .taken)
 
 mul-y : tie.Need-mul-y Inv-loop μ-loop
-mul-y c = let a = c in let s = a .before .before .before in let o = s .pre .order in let h = s .pre .below (a .before .before .loop .e) (a .before .loop-test .taken) in omega (arith, a .count-at .ensures)
+mul-y c = let a = c in let s = a .before .before .before in let o = s .pre .order in let h = s .pre .permutes .below (a .before .before .loop .e) (a .before .loop-test .taken) in omega (arith, a .count-at .ensures)
 
 array-copy-out-y : tie.Need-array-copy-out-y Inv-loop μ-loop
-array-copy-out-y c = let a = c in let s = a .before .before .before in let o = s .pre .order in let h = s .pre .below (a .before .before .loop .e) (a .before .loop-test .taken) in omega (arith, a .count-at .ensures)
+array-copy-out-y c = let a = c in let s = a .before .before .before in let o = s .pre .order in let h = s .pre .permutes .below (a .before .before .loop .e) (a .before .loop-test .taken) in omega (arith, a .count-at .ensures)
 
 mul-y-2 : tie.Need-mul-y-2 Inv-loop μ-loop
 mul-y-2 c = let a = c .before in let s = a .before .before .before in let o = s .pre .order in omega arith

@@ -33,10 +33,10 @@ array-copy-out-x : tie.Need-array-copy-out-x Inv-loop μ-loop
 array-copy-out-x c = let a = c in let s = a .before .before .before in let o = s .pre .order in omega arith
 
 mul-x-2 : tie.Need-mul-x-2 Inv-loop μ-loop
-mul-x-2 c = let a = c .before in let s = a .before .before .before in let o = s .pre .order in let h = s .pre .below (a .before .before .loop .e) (a .before .loop-test .taken) in omega (arith, a .count-at .ensures)
+mul-x-2 c = let a = c .before in let s = a .before .before .before in let o = s .pre .order in let h = s .pre .permutes .below (a .before .before .loop .e) (a .before .loop-test .taken) in omega (arith, a .count-at .ensures)
 
 array-set-from-x : tie.Need-array-set-from-x Inv-loop μ-loop
-array-set-from-x c = let a = c .before in let s = a .before .before .before in let o = s .pre .order in let h = s .pre .below (a .before .before .loop .e) (a .before .loop-test .taken) in omega (arith, a .count-at .ensures)
+array-set-from-x c = let a = c .before in let s = a .before .before .before in let o = s .pre .order in let h = s .pre .permutes .below (a .before .before .loop .e) (a .before .loop-test .taken) in omega (arith, a .count-at .ensures)
 
 add-e : tie.Need-add-e Inv-loop μ-loop
 add-e c = omega arith
