@@ -51,15 +51,15 @@ spread-other (suc n) q g x k h =
     set-other (spread n q g x) (q n) k (g n) (h n (omega arith)) ∙ spread-other n q g x k (λ m l. h m (omega arith))
 
 pub spread-at : (n : ℕ) (q : ℕ → ℕ) (g : ℕ → ℤ) (x : List ℤ) → ((m : ℕ) → m < n → q m < length x) →
-    ((i j : ℕ) → i < n → j < n → q i ≡ q j → i ≡ j) → (m : ℕ) → m < n → at (spread n q g x) (q m) ≡ g m
+    ((i j : ℕ) → i < n → j < n → i ≢ j → q i ≢ q j) → (m : ℕ) → m < n → at (spread n q g x) (q m) ≡ g m
 unfolding spread
-spread-at zero q g x room one m l = absurd (omega arith)
-spread-at (suc n) q g x room one m l =
-    go (spread-at n q g x (λ i b. room i (omega arith)) (λ i j a b. one i j (omega arith) (omega arith)) m) (ℕ-discrete m n)
+spread-at zero q g x room once m l = absurd (omega arith)
+spread-at (suc n) q g x room once m l =
+    go (spread-at n q g x (λ i b. room i (omega arith)) (λ i j a b. once i j (omega arith) (omega arith)) m) (ℕ-discrete m n)
   where
     go : (m < n → at (spread n q g x) (q m) ≡ g m) → Dec (m ≡ n) → at (set (spread n q g x) (q n) (g n)) (q m) ≡ g m
     go ih (yes e) = rw e (set-at (spread n q g x) (q n) (g n) (omega (arith, length-spread n q g x, room n (omega arith))))
-    go ih (no e) = set-other (spread n q g x) (q n) (q m) (g n) (λ z. e (one m n l (omega arith) z)) ∙ ih (omega arith)
+    go ih (no e) = set-other (spread n q g x) (q n) (q m) (g n) (once m n l (omega arith) e) ∙ ih (omega arith)
 
 pub spread-same : (n : ℕ) (q r : ℕ → ℕ) (g h : ℕ → ℤ) (x : List ℤ) → ((m : ℕ) → m < n → q m ≡ r m) → ((m : ℕ) → m < n → g m ≡ h m) →
     spread n q g x ≡ spread n r h x

@@ -28,7 +28,7 @@ length-walk step p zero y = refl
 length-walk step p (suc t) y = length-set (walk step p t y) (p t) _ ∙ length-walk step p t y
 
 module _ {N : ℕ} {p : ℕ → ℕ} (h : Permutes N p) where
-  apart : (t u : ℕ) → t < N → u < N → t ≢ u → p t ≢ p u
+  pub apart : (t u : ℕ) → t < N → u < N → t ≢ u → p t ≢ p u
   apart t u a b q e = q (sym (h .from-to t a) ∙ ap (h .from) e ∙ h .from-to u b)
 
   -- an element once recovered stays

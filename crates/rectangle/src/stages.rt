@@ -8,8 +8,7 @@ ghost use Rattle.factor.specs.Reach.{Numbers};
 ghost use Rattle.factor.specs.Ways.{limitOf, takenBy};
 ghost use Rattle.factor.specs.Steps.{Step};
 ghost use Rattle.rectangle.specs.Links.{Paired};
-use crate::moves::permute;
-use crate::moves::unpermute;
+use crate::moves::move_pair;
 use crate::steps::Stepped;
 use crate::steps::allow_weights;
 use crate::steps::unweigh;
@@ -35,7 +34,8 @@ pub fn take_pair(
     let fa = spot_at(col, n1, i);
     let fb = spot_at(row, n2, j);
     if is_move(fa) {
-        let b = permute(col, fa, row, fb, x);
+        let mut b = x;
+        move_pair(col, fa, row, fb, false, &mut b);
         return Stepped { ok: true, block: b };
     }
     match way {
@@ -60,7 +60,8 @@ pub fn undo_pair(
     let fa = spot_at(col, n1, i);
     let fb = spot_at(row, n2, j);
     if is_move(fa) {
-        let b = unpermute(col, fa, row, fb, y);
+        let mut b = y;
+        move_pair(col, fa, row, fb, true, &mut b);
         return Stepped { ok: true, block: b };
     }
     unweigh(col, fa, row, fb, y)

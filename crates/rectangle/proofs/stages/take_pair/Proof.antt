@@ -8,6 +8,7 @@ use Rattle.factor.specs.Ways.{limitOf, takenBy}
 use Rattle.factor.specs.Spots.{spotBy, spotAt}
 use Rattle.factor.specs.Reach.{numbers-fill}
 use Rattle.factor.specs.Steps.{step-moves}
+use Rattle.factor.specs.Spreads.{movedBy}
 use Rattle.factor.specs.Lies.{lies, moves, kind-yes, kind-no}
 use Rattle.rectangle.specs.Links.{permute-is, weigh-is, allow-is}
 use borrow.Author.Needs.{needs}
@@ -29,19 +30,20 @@ yes-kind c = kind-yes (c .before .before .before .before .pre .0 .column) (c .be
 no-kind : (c : tie.Else1) → kindOf (count (c .before .before .before .before .args .col .now) (c .before .before .before .before .args .i)) ≢ Permutation
 no-kind c = kind-no (c .before .before .before .before .pre .0 .column) (c .before .before .before .spot-at .ensures) (c .before .is-move .ensures) (c .if1 .left)
 
-permute-requires : tie.Need-permute-requires
-permute-requires c κs =
-    let s = c .before .before .before .before in
-    let p = s .pre .0 in
-    let q = yes-kind c in
-    rw (c .before .before .before .spot-at .ensures, c .before .before .spot-at2 .ensures) (moves (p .most1) (p .column) q, moves (p .most2) (p .row) (sym (p .match) ∙ q))
+move-pair-requires : tie.Need-move-pair-requires
+move-pair-requires c κs =
+    let a = c .before in
+    let p = a .before .before .before .before .pre .0 in
+    let q = yes-kind a in
+    rw (a .before .before .before .spot-at .ensures, a .before .before .spot-at2 .ensures) (moves (p .most1) (p .column) q, moves (p .most2) (p .row) (sym (p .match) ∙ q))
 
 returns : tie.Need-returns
-unfolding spotAt spotBy
+unfolding spotAt spotBy movedBy
 returns c =
-    let s = c .before .before .before .before .before in
-    let q = yes-kind (c .before) in
-    step-moves (c .permute .ensures ∙ rw (c .before .before .before .before .spot-at .ensures, c .before .before .before .spot-at2 .ensures)) (permute-is _ _ _ _ _ _ (s .pre .0 .match) q (s .args .way) (s .args .x)) (numbers-fill _ _ (s .pre .1) (λ e. s .pre .1 .small _))
+    let a = c .before .before in
+    let s = a .before .before .before .before in
+    step-moves (c .move-pair .ensures ∙ rw (a .before .before .before .spot-at .ensures, a .before .before .spot-at2 .ensures))
+    (permute-is _ _ _ _ _ _ (s .pre .0 .match) (yes-kind a) (s .args .way) _) (numbers-fill _ _ (s .pre .1) (λ e. s .pre .1 .small _))
 
 enum-told : tie.Need-enum-told
 enum-told c = search needs
@@ -94,7 +96,7 @@ take-pair-spec =
     spot-at-requires
     spot-at-requires-2
     is-move-requires
-    permute-requires
+    move-pair-requires
     returns
     enum-told
     weigh-requires

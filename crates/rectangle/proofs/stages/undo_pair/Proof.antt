@@ -10,6 +10,7 @@ use Rattle.rules.specs.Sheets.{kindOf}
 use Rattle.factor.specs.Spots.{spotBy, spotAt}
 use Rattle.factor.specs.Reach.{numbers-put}
 use Rattle.factor.specs.Steps.{step-moves}
+use Rattle.factor.specs.Spreads.{movedBy}
 use Rattle.factor.specs.Lies.{lies, moves, kind-yes, kind-no, row-inside}
 use Rattle.rectangle.specs.Links.{unpermute-is, unweigh-is}
 use borrow.Author.Needs.{needs}
@@ -34,19 +35,20 @@ no-kind c = kind-no (c .before .before .before .before .pre .0 .column) (c .befo
 len : (s : tie.Start) → length (s .args .y) ≡ 256
 len s = search needs
 
-unpermute-requires : tie.Need-unpermute-requires
-unpermute-requires c κs =
-    let s = c .before .before .before .before in
-    let p = s .pre .0 in
-    let q = yes-kind c in
-    rw (c .before .before .before .spot-at .ensures, c .before .before .spot-at2 .ensures) (moves (p .most1) (p .column) q, moves (p .most2) (p .row) (sym (p .match) ∙ q))
+move-pair-requires : tie.Need-move-pair-requires
+move-pair-requires c κs =
+    let a = c .before in
+    let p = a .before .before .before .before .pre .0 in
+    let q = yes-kind a in
+    rw (a .before .before .before .spot-at .ensures, a .before .before .spot-at2 .ensures) (moves (p .most1) (p .column) q, moves (p .most2) (p .row) (sym (p .match) ∙ q))
 
 returns : tie.Need-returns
-unfolding spotAt spotBy
+unfolding spotAt spotBy movedBy
 returns c =
-    let s = c .before .before .before .before .before in
-    let q = yes-kind (c .before) in
-    step-moves (c .unpermute .ensures ∙ rw (c .before .before .before .before .spot-at .ensures, c .before .before .before .spot-at2 .ensures)) (unpermute-is _ _ _ _ _ _ (s .pre .0 .match) q (s .args .y)) (numbers-put _ _ (s .pre .1))
+    let a = c .before .before in
+    let s = a .before .before .before .before in
+    step-moves (c .move-pair .ensures ∙ rw (a .before .before .before .spot-at .ensures, a .before .before .spot-at2 .ensures))
+    (unpermute-is _ _ _ _ _ _ (s .pre .0 .match) (yes-kind a) _) (numbers-put _ _ (s .pre .1))
 
 unweigh-requires : tie.Need-unweigh-requires
 unfolding spotAt spotBy
@@ -72,7 +74,7 @@ undo-pair-spec =
     spot-at-requires
     spot-at-requires-2
     is-move-requires
-    unpermute-requires
+    move-pair-requires
     returns
     unweigh-requires
     returns-2)
