@@ -4,6 +4,7 @@ pub mod Reach
 pub mod Lies
 pub mod Walks
 pub mod Turns
+pub mod Spreads
 pub mod Magnitudes
 pub mod Wholes
 pub mod Ways

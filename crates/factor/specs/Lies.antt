@@ -17,8 +17,10 @@ use Rattle.rules.specs.declared.Kind.the-variants.{Permutation, Lower, Upper, S
 use Rattle.rules.specs.Numbers.{mostOrder, at, count}
 use Rattle.rules.specs.Sheets.{kindOf, triangle}
 use Rattle.rules.specs.Factors.{signsAt, above}
+use Rattle.rules.specs.Laws.Good.{Permutes}
 use Rattle.laws.specs.Tests.{triangle-twice, triangle-more}
-use Rattle.laws.specs.Accepted.{FactorRead, Weights, weights-room, entriesOf, Counts, entry-is, sign-is, row-is, place-is, place-counts}
+use Rattle.laws.specs.Accepted.{FactorRead, Weights, weights-room, entriesOf, Counts, entry-is, sign-is, row-is, place-counts}
+use Rattle.laws.specs.Sound.{places-permute}
 use Rattle.factor.specs.declared.Row.{Row}
 use Rattle.factor.specs.declared.Spot.{Spot}
 use Rattle.factor.specs.Spots.{rowIn, spotBy, spotAt, row, rowBy, rowOf, isMove}
@@ -108,17 +110,20 @@ pub row-wide : {s : List ℤ} {n m : ℕ} {r : Row} → n ≤ mostOrder → RowI
 row-wide l h = record { room = h .room; left = h .left; right = let a = h .right in omega arith; entries = h .entries }
 
 -- a permutation, as the code uses it: its places stand where the signs of other kinds do
+abbrev pub placeAt : List ℤ → Spot → ℕ → ℕ
+placeAt s f m = count s (f .signs + m)
+
 pub record Moves (s : List ℤ) (f : Spot) : Type 0 where
   pub order : f .order ≤ mostOrder
-  pub counts : (e : ℕ) → e < f .order → Counts s (f .signs + e)
-  pub below : (e : ℕ) → e < f .order → count s (f .signs + e) < f .order
+  pub counts : (m : ℕ) → m < f .order → Counts s (f .signs + m)
+  pub permutes : Permutes (f .order) (placeAt s f)
 
 pub moves : {s : List ℤ} {n i : ℕ} → n ≤ mostOrder → FactorRead s n i → kindOf (count s i) ≡ Permutation → Moves s (spotAt s n i)
 unfolding spotBy spotAt signsAt
 moves {s} {n} {i} l h q = record {
   order = l;
-  counts = λ e b. rw q (place-counts (h .body .places q .each e b));
-  below = λ e b. rw q (place-is (h .body .places q .each e b) .1);
+  counts = λ m b. rw q (place-counts (h .body .places q .each m b));
+  permutes = rw q (places-permute (h .body .places q));
 }
 
 -- ---- a factor by what it does

@@ -35,7 +35,7 @@ walk-other step p (suc t) y e h =
     set-other (walk step p t y) (p t) e _ (λ z. h t (omega arith) (sym z)) ∙ walk-other step p t y e (λ u l. h u (omega arith))
 
 module _ {N : ℕ} {p : ℕ → ℕ} (h : Permutes N p) where
-  apart : (t u : ℕ) → t < N → u < N → t ≢ u → p t ≢ p u
+  pub apart : (t u : ℕ) → t < N → u < N → t ≢ u → p t ≢ p u
   apart t u a b q e = q (sym (h .from-to t a) ∙ ap (h .from) e ∙ h .from-to u b)
 
   -- an element once recovered stays

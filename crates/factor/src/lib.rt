@@ -20,6 +20,7 @@ pub mod answers; // 10: the lengths of lent slices
 pub mod block; // the block between the lent slices and the runs
 pub mod bounds; // stage 0
 pub mod magnitudes; // what an allowance asks of entries
+pub mod moves; // permutations, in place
 pub mod rounding; // one element: rounding, sign, bound
 pub mod sums; // sums of entries times numbers
 

@@ -10,12 +10,11 @@ ghost use Rattle.factor.specs.Ways.{limitOf, takenBy};
 ghost use Rattle.factor.specs.Steps.{Step};
 use crate::steps::Stepped;
 use crate::steps::allow_weights;
-use crate::steps::permute;
-use crate::steps::unpermute;
 use crate::steps::unweigh;
 use crate::steps::weigh;
 use factor::Way;
 use factor::is_move;
+use factor::moves::move_line;
 use factor::spot_at;
 
 // Applied, or on allowances.
@@ -25,7 +24,8 @@ pub fn take_factor(way: Way, sheet: &[i32], n: usize, i: usize, x: [i32; 16]) ->
 {
     let f = spot_at(sheet, n, i);
     if is_move(f) {
-        let y = permute(sheet, f, x);
+        let mut y = x;
+        move_line(sheet, f, false, &mut y, 0, 1);
         return Stepped { ok: true, block: y };
     }
     match way {
@@ -41,7 +41,8 @@ pub fn undo_factor(sheet: &[i32], n: usize, i: usize, y: [i32; 16]) -> Stepped
 {
     let f = spot_at(sheet, n, i);
     if is_move(f) {
-        let x = unpermute(sheet, f, y);
+        let mut x = y;
+        move_line(sheet, f, true, &mut x, 0, 1);
         return Stepped { ok: true, block: x };
     }
     unweigh(sheet, f, y)

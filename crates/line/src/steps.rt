@@ -1,13 +1,13 @@
-// One factor of a line: applied, undone, and what it does to allowances. The block goes in and comes back by value.
+// One factor with weights of a line: applied, undone, and what it does to allowances. The block goes in and comes back by value.
 ghost use mathlib.Core.Path.{_≡_};
 ghost use mathlib.Core.Bool.{cond};
-ghost use Prim.Native.Nat.{_+_, _<_};
+ghost use Prim.Native.Nat.{_<_};
 ghost use lib.IntN.{pos};
-ghost use Rattle.rules.specs.Numbers.{bound, mostAllowance, at, count};
-ghost use Rattle.rules.specs.Stages.{fill, putBack};
+ghost use Rattle.rules.specs.Numbers.{bound, mostAllowance};
+ghost use Rattle.rules.specs.Stages.{fill};
 ghost use Rattle.factor.specs.Spots.{along};
 ghost use Rattle.factor.specs.Reach.{Numbers, RowIn};
-ghost use Rattle.factor.specs.Lies.{Lies, Moves};
+ghost use Rattle.factor.specs.Lies.{Lies};
 ghost use Rattle.factor.specs.Magnitudes.{Entries, whole, sizeAt};
 ghost use Rattle.factor.specs.Steps.{Step};
 ghost use Rattle.line.specs.Steps.{nudge, outAt, backAt, allowAt, walkLine};
@@ -25,7 +25,6 @@ use factor::rounding::undone;
 use factor::row_of;
 use factor::sums::row_sum;
 use rules::Block;
-use sheet::places::count_at;
 
 // Whether every number is in bound, and the new block; else the block as it was.
 pub struct Stepped {
@@ -153,34 +152,4 @@ pub fn allow_weights(sheet: &[i32], f: Spot, b: [i32; 16]) -> Stepped
         c[m] = z as i32;
     }
     Stepped { ok: true, block: c }
-}
-
-// A permutation, applied to numbers or allowances: element e takes the number at its place.
-pub fn permute(sheet: &[i32], f: Spot, x: [i32; 16]) -> [i32; 16]
-    requires { ⌜ Moves (now sheet) f ⌝ }
-    ensures { λ r. ⌜ r ≡ fill (f .order) (λ e. at x (count (now (sheet .entry)) (f .signs + e))) x ⌝ }
-{
-    let n = f.order;
-    let places = f.signs;
-    let mut y = x;
-    for e in 0..n {
-        let p = count_at(sheet, places + e);
-        y[e] = x[p];
-    }
-    y
-}
-
-// A permutation undone: the number of element e goes to its place.
-pub fn unpermute(sheet: &[i32], f: Spot, y: [i32; 16]) -> [i32; 16]
-    requires { ⌜ Moves (now sheet) f ⌝ }
-    ensures { λ r. ⌜ r ≡ putBack (f .order) (λ e. count (now (sheet .entry)) (f .signs + e)) y ⌝ }
-{
-    let n = f.order;
-    let places = f.signs;
-    let mut x = y;
-    for e in 0..n {
-        let p = count_at(sheet, places + e);
-        x[p] = y[e];
-    }
-    x
 }

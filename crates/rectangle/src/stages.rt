@@ -10,8 +10,7 @@ ghost use Rattle.factor.specs.Reach.{Numbers};
 ghost use Rattle.factor.specs.Ways.{limitOf, takenBy};
 ghost use Rattle.factor.specs.Steps.{Step};
 ghost use Rattle.rectangle.specs.Links.{Paired};
-use crate::moves::permute;
-use crate::moves::unpermute;
+use crate::moves::move_pair;
 use crate::steps::unweigh;
 use crate::steps::weigh;
 use factor::Way;
@@ -35,7 +34,7 @@ pub fn take_pair(
     let fa = spot_at(col, n1, i);
     let fb = spot_at(row, n2, j);
     if is_move(fa) {
-        *x = permute(col, fa, row, fb, *x);
+        move_pair(col, fa, row, fb, false, x);
         return true;
     }
     weigh(way, col, fa, row, fb, x)
@@ -57,7 +56,7 @@ pub fn undo_pair(
     let fa = spot_at(col, n1, i);
     let fb = spot_at(row, n2, j);
     if is_move(fa) {
-        *x = unpermute(col, fa, row, fb, *x);
+        move_pair(col, fa, row, fb, true, x);
         return true;
     }
     unweigh(col, fa, row, fb, x)

@@ -1,6 +1,8 @@
 -- A permutation and a factor with weights are each the document's stage (`permute-is`, `weigh-is`, `allow-is`).
 use mathlib.Core.Logic.{_≢_}
 use mathlib.Core.Path.{_≡_, _∙_}
+use native.Mathlib.Omega.{arith}
+use lib.ListN.{length}
 use Rattle.rules.specs.declared.Kind.the-variants.{Permutation}
 use Rattle.rules.specs.Numbers.{count}
 use Rattle.rules.specs.Sheets.{kindOf}
@@ -8,11 +10,15 @@ use Rattle.factor.specs.Ways.{limitOf, takenBy}
 use Rattle.factor.specs.Spots.{spotBy, spotAt}
 use Rattle.factor.specs.Reach.{numbers-fill}
 use Rattle.factor.specs.Steps.{step-moves}
+use Rattle.factor.specs.Spreads.{movedBy, line-moved}
 use Rattle.factor.specs.Lies.{lies, moves, kind-yes, kind-no}
 use Rattle.line.specs.Links.{permute-is, weigh-is, allow-is}
 use borrow.Author.Needs.{needs}
 use Rattle.line.proofs.stages.take_factor.Statement.{statement}
 use Rattle.line.proofs.stages.take_factor.Tie as tie
+
+len : (s : tie.Start) → length (s .args .x) ≡ 16
+len s = search needs
 
 yes-kind : (c : tie.Then1) → kindOf (count (c .before .before .before .args .sheet .now) (c .before .before .before .args .i)) ≡ Permutation
 yes-kind c = let a = c .before .before in kind-yes (a .before .pre .2) (a .spot-at .ensures) (c .before .is-move .ensures) (c .if1 .taken)
@@ -26,15 +32,26 @@ spot-at-requires c κs = search needs
 is-move-requires : tie.Need-is-move-requires
 is-move-requires c κs = search needs
 
-permute-requires : tie.Need-permute-requires
-permute-requires c κs = let a = c .before .before in let s = a .before in rw (a .spot-at .ensures) (moves (s .pre .1) (s .pre .2) (yes-kind c))
+slice-aggregate-move-line : tie.Need-slice-aggregate-move-line
+slice-aggregate-move-line c = search needs
+
+move-line-requires : tie.Need-move-line-requires
+unfolding spotAt spotBy
+move-line-requires c κs =
+    let k = c .before in
+    let a = k .before .before in
+    let s = a .before in
+    let o = s .pre .1 in
+    rw (a .spot-at .ensures) (moves (s .pre .1) (s .pre .2) (yes-kind k), λ m b. omega (arith, len s))
 
 returns : tie.Need-returns
-unfolding spotAt spotBy
+unfolding spotAt spotBy movedBy
 returns c =
-    let a = c .before .before .before in
+    let k = c .before .before .before in
+    let a = k .before .before in
     let s = a .before in
-    step-moves (c .permute .ensures ∙ rw (a .spot-at .ensures)) (permute-is _ _ _ (yes-kind (c .before)) (s .args .way) (s .args .x)) (numbers-fill (s .args .n) _ (s .pre .3) (λ e. s .pre .3 .small _))
+    step-moves (c .before .move-line .ensures ∙ line-moved _ _ _ _ ∙ rw (a .spot-at .ensures)) (permute-is _ _ _ (yes-kind k) (s .args .way) _)
+    (numbers-fill (s .args .n) _ (s .pre .3) (λ e. s .pre .3 .small _))
 
 enum-told : tie.Need-enum-told
 enum-told c = search needs
@@ -78,7 +95,8 @@ take-factor-spec =
     (tie.spec
     spot-at-requires
     is-move-requires
-    permute-requires
+    slice-aggregate-move-line
+    move-line-requires
     returns
     enum-told
     weigh-requires

@@ -2,9 +2,13 @@
 use mathlib.Core.Path.{_≡_, _∙_}
 use native.Mathlib.Omega.{arith}
 use lib.ListN.{length}
+use Rattle.rules.specs.declared.Kind.the-variants.{Permutation}
+use Rattle.rules.specs.Numbers.{count}
+use Rattle.rules.specs.Sheets.{kindOf}
 use Rattle.factor.specs.Spots.{spotBy, spotAt}
 use Rattle.factor.specs.Reach.{numbers-put}
 use Rattle.factor.specs.Steps.{step-moves}
+use Rattle.factor.specs.Spreads.{movedBy, line-moved}
 use Rattle.factor.specs.Lies.{lies, moves, kind-yes, kind-no, row-inside}
 use Rattle.line.specs.Links.{unpermute-is, unweigh-is}
 use borrow.Author.Needs.{needs}
@@ -14,25 +18,34 @@ use Rattle.line.proofs.stages.undo_factor.Tie as tie
 len : (s : tie.Start) → length (s .args .y) ≡ 16
 len s = search needs
 
+yes-kind : (c : tie.Then1) → kindOf (count (c .before .before .before .args .sheet .now) (c .before .before .before .args .i)) ≡ Permutation
+yes-kind c = let a = c .before .before in kind-yes (a .before .pre .2) (a .spot-at .ensures) (c .before .is-move .ensures) (c .if1 .taken)
+
 spot-at-requires : tie.Need-spot-at-requires
 spot-at-requires c κs = search needs
 
 is-move-requires : tie.Need-is-move-requires
 is-move-requires c κs = search needs
 
-unpermute-requires : tie.Need-unpermute-requires
-unpermute-requires c κs =
-    let a = c .before .before in
+slice-aggregate-move-line : tie.Need-slice-aggregate-move-line
+slice-aggregate-move-line c = search needs
+
+move-line-requires : tie.Need-move-line-requires
+unfolding spotAt spotBy
+move-line-requires c κs =
+    let k = c .before in
+    let a = k .before .before in
     let s = a .before in
-    rw (a .spot-at .ensures) (moves (s .pre .1) (s .pre .2) (kind-yes (s .pre .2) (a .spot-at .ensures) (c .before .is-move .ensures) (c .if1 .taken)))
+    let o = s .pre .1 in
+    rw (a .spot-at .ensures) (moves (s .pre .1) (s .pre .2) (yes-kind k), λ m b. omega (arith, len s))
 
 returns : tie.Need-returns
-unfolding spotAt spotBy
+unfolding spotAt spotBy movedBy
 returns c =
-    let a = c .before .before .before in
+    let k = c .before .before .before in
+    let a = k .before .before in
     let s = a .before in
-    let q = kind-yes (s .pre .2) (a .spot-at .ensures) (c .before .before .is-move .ensures) (c .before .if1 .taken) in
-    step-moves (c .unpermute .ensures ∙ rw (a .spot-at .ensures)) (unpermute-is _ _ _ q (s .args .y)) (numbers-put (s .args .n) _ (s .pre .3))
+    step-moves (c .before .move-line .ensures ∙ line-moved _ _ _ _ ∙ rw (a .spot-at .ensures)) (unpermute-is _ _ _ (yes-kind k) _) (numbers-put (s .args .n) _ (s .pre .3))
 
 unweigh-requires : tie.Need-unweigh-requires
 unfolding spotAt spotBy
@@ -55,7 +68,8 @@ undo-factor-spec =
     (tie.spec
     spot-at-requires
     is-move-requires
-    unpermute-requires
+    slice-aggregate-move-line
+    move-line-requires
     returns
     unweigh-requires
     returns-2)

@@ -9,6 +9,7 @@ use Rattle.rules.specs.Laws.Lists.{length-fill}
 use Rattle.factor.specs.Spots.{spotBy, spotAt}
 use Rattle.factor.specs.Reach.{numbers-fill}
 use Rattle.factor.specs.Steps.{step-moves}
+use Rattle.factor.specs.Spreads.{movedBy}
 use Rattle.factor.specs.Lies.{lies, moves, kind-yes, kind-no, row-inside}
 use Rattle.rectangle.specs.Links.{permute-is, weigh-is}
 use borrow.Author.Needs.{needs}
@@ -30,8 +31,8 @@ yes-kind c = kind-yes (c .before .before .before .before .pre .0 .column) (c .be
 no-kind : (c : tie.Else1) → kindOf (count (c .before .before .before .before .args .col .now) (c .before .before .before .before .args .i)) ≢ Permutation
 no-kind c = kind-no (c .before .before .before .before .pre .0 .column) (c .before .before .before .spot-at .ensures) (c .before .is-move .ensures) (c .if1 .left)
 
-permute-requires : tie.Need-permute-requires
-permute-requires c κs =
+move-pair-requires : tie.Need-move-pair-requires
+move-pair-requires c κs =
     let t = c .before in
     let s = t .before .before .before .before in
     let p = s .pre .0 in
@@ -39,14 +40,15 @@ permute-requires c κs =
     rw (t .before .before .before .spot-at .ensures, t .before .before .spot-at2 .ensures) (moves (p .most1) (p .column) q, moves (p .most2) (p .row) (sym (p .match) ∙ q))
 
 returns : tie.Need-returns
-unfolding spotAt spotBy
+unfolding spotAt spotBy movedBy
 returns c =
     let t = c .before .before in
     let s = t .before .before .before .before in
     let q = yes-kind t in
-    let e = rw (t .before .before .before .spot-at .ensures, t .before .before .spot-at2 .ensures) at (c .permute .ensures) in
-    (step-moves e (permute-is _ _ _ _ _ _ (s .pre .0 .match) q (s .args .way) (s .args .x .now)) (numbers-fill _ _ (s .pre .1) (λ e. s .pre .1 .small _)),
-    ap length e ∙ length-fill _ _ (s .args .x .now) ∙ s .pre .2)
+    let e = rw (t .before .before .before .spot-at .ensures, t .before .before .spot-at2 .ensures) at (c .move-pair .ensures) in (
+      step-moves e (permute-is _ _ _ _ _ _ (s .pre .0 .match) q (s .args .way) (s .args .x .now)) (numbers-fill _ _ (s .pre .1) (λ e. s .pre .1 .small _)),
+      ap length e ∙ length-fill _ _ (s .args .x .now) ∙ s .pre .2,
+    )
 
 weigh-requires : tie.Need-weigh-requires
 unfolding spotAt spotBy
@@ -75,7 +77,7 @@ take-pair-spec =
     spot-at-requires
     spot-at-requires-2
     is-move-requires
-    permute-requires
+    move-pair-requires
     returns
     weigh-requires
     returns-2)

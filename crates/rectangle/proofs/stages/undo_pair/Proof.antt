@@ -11,6 +11,7 @@ use Rattle.rules.specs.Laws.Back.{length-put}
 use Rattle.factor.specs.Spots.{spotBy, spotAt}
 use Rattle.factor.specs.Reach.{numbers-put}
 use Rattle.factor.specs.Steps.{step-moves}
+use Rattle.factor.specs.Spreads.{movedBy}
 use Rattle.factor.specs.Lies.{lies, moves, kind-yes, kind-no, row-inside}
 use Rattle.rectangle.specs.Links.{unpermute-is, unweigh-is}
 use borrow.Author.Needs.{needs}
@@ -32,8 +33,8 @@ yes-kind c = kind-yes (c .before .before .before .before .pre .0 .column) (c .be
 no-kind : (c : tie.Else1) → kindOf (count (c .before .before .before .before .args .col .now) (c .before .before .before .before .args .i)) ≢ Permutation
 no-kind c = kind-no (c .before .before .before .before .pre .0 .column) (c .before .before .before .spot-at .ensures) (c .before .is-move .ensures) (c .if1 .left)
 
-unpermute-requires : tie.Need-unpermute-requires
-unpermute-requires c κs =
+move-pair-requires : tie.Need-move-pair-requires
+move-pair-requires c κs =
     let t = c .before in
     let s = t .before .before .before .before in
     let p = s .pre .0 in
@@ -41,12 +42,12 @@ unpermute-requires c κs =
     rw (t .before .before .before .spot-at .ensures, t .before .before .spot-at2 .ensures) (moves (p .most1) (p .column) q, moves (p .most2) (p .row) (sym (p .match) ∙ q))
 
 returns : tie.Need-returns
-unfolding spotAt spotBy
+unfolding spotAt spotBy movedBy
 returns c =
     let t = c .before .before in
     let s = t .before .before .before .before in
     let q = yes-kind t in
-    let e = rw (t .before .before .before .spot-at .ensures, t .before .before .spot-at2 .ensures) at (c .unpermute .ensures) in (
+    let e = rw (t .before .before .before .spot-at .ensures, t .before .before .spot-at2 .ensures) at (c .move-pair .ensures) in (
       step-moves e (unpermute-is _ _ _ _ _ _ (s .pre .0 .match) q (s .args .x .now)) (numbers-put _ _ (s .pre .1)),
       ap length e ∙ length-put _ _ (s .args .x .now) ∙ s .pre .2,
     )
@@ -78,7 +79,7 @@ undo-pair-spec =
     spot-at-requires
     spot-at-requires-2
     is-move-requires
-    unpermute-requires
+    move-pair-requires
     returns
     unweigh-requires
     returns-2)

@@ -1,0 +1,104 @@
+-- NUMBERS MOVED IN PLACE, one after another: the lines of a block by a permutation, applied or back.
+use mathlib.Core.Bool.{Bool, true, false, cond}
+use mathlib.Core.List.{List}
+use mathlib.Core.Logic.{_≢_}
+use mathlib.Core.Path.{_≡_, refl, sym, ap, _∙_}
+use Prim.Native.Nat.{ℕ, zero, suc, _+_, _*_, _≤_, _<_}
+use native.Mathlib.Decide.{ℕ-discrete}
+use native.Mathlib.Omega.{arith}
+use lib.IntN.{ℤ, pos}
+use lib.ListN.{length, set, replicate, length-set}
+use Rattle.rules.specs.Numbers.{mostOrder, at}
+use Rattle.rules.specs.Stages.{fill, putBack}
+use Rattle.rules.specs.Laws.Good.{Permutes}
+use Rattle.rules.specs.Laws.Lists.{fill-at, set-at, set-other}
+use Rattle.factor.specs.Turns.{same-permutes}
+
+-- place q m is set to g m, for each m below n
+unfoldable pub spread : ℕ → (ℕ → ℕ) → (ℕ → ℤ) → List ℤ → List ℤ
+spread zero q g x = x
+spread (suc m) q g x = set (spread m q g x) (q m) (g m)
+
+-- turn m of a permutation: where a number goes, and where it comes from. Applied, place m takes the number of place p m; back, the number of m goes to p m
+abbrev pub toOf : Bool → (ℕ → ℕ) → ℕ → ℕ
+toOf back p m = cond back (p m) m
+
+abbrev pub fromOf : Bool → (ℕ → ℕ) → ℕ → ℕ
+fromOf back p m = cond back m (p m)
+
+-- n numbers by a permutation, as the document has them
+unfoldable pub movedBy : Bool → ℕ → (ℕ → ℕ) → List ℤ → List ℤ
+movedBy false n p x = fill n (λ e. at x (p e)) x
+movedBy true n p x = putBack n p x
+
+-- a line is the n numbers from place k on, s apart: it lies inside a block, and its numbers are moved
+abbrev pub LineIn : ℕ → ℕ → ℕ → List ℤ → Type 0
+LineIn n k s x = (m : ℕ) → m < n → k + m * s < length x
+
+unfoldable pub movedLine : Bool → ℕ → (ℕ → ℕ) → ℕ → ℕ → List ℤ → List ℤ
+movedLine back n p k s x = spread n (λ m. k + toOf back p m * s) (λ m. at x (k + fromOf back p m * s)) x
+
+-- ---- laws
+pub length-spread : (n : ℕ) (q : ℕ → ℕ) (g : ℕ → ℤ) (x : List ℤ) → length (spread n q g x) ≡ length x
+unfolding spread
+length-spread zero q g x = refl
+length-spread (suc n) q g x = length-set (spread n q g x) (q n) (g n) ∙ length-spread n q g x
+
+pub spread-other : (n : ℕ) (q : ℕ → ℕ) (g : ℕ → ℤ) (x : List ℤ) (k : ℕ) → ((m : ℕ) → m < n → k ≢ q m) → at (spread n q g x) k ≡ at x k
+unfolding spread
+spread-other zero q g x k h = refl
+spread-other (suc n) q g x k h =
+    set-other (spread n q g x) (q n) k (g n) (h n (omega arith)) ∙ spread-other n q g x k (λ m l. h m (omega arith))
+
+pub spread-at : (n : ℕ) (q : ℕ → ℕ) (g : ℕ → ℤ) (x : List ℤ) → ((m : ℕ) → m < n → q m < length x) →
+    ((i j : ℕ) → i < n → j < n → i ≢ j → q i ≢ q j) → (m : ℕ) → m < n → at (spread n q g x) (q m) ≡ g m
+unfolding spread
+spread-at zero q g x room once m l = absurd (omega arith)
+spread-at (suc n) q g x room once m l =
+    go (spread-at n q g x (λ i b. room i (omega arith)) (λ i j a b. once i j (omega arith) (omega arith)) m) (ℕ-discrete m n)
+  where
+    go : (m < n → at (spread n q g x) (q m) ≡ g m) → Dec (m ≡ n) → at (set (spread n q g x) (q n) (g n)) (q m) ≡ g m
+    go ih (yes e) = rw e (set-at (spread n q g x) (q n) (g n) (omega (arith, length-spread n q g x, room n (omega arith))))
+    go ih (no e) = set-other (spread n q g x) (q n) (q m) (g n) (once m n l (omega arith) e) ∙ ih (omega arith)
+
+pub spread-same : (n : ℕ) (q r : ℕ → ℕ) (g h : ℕ → ℤ) (x : List ℤ) → ((m : ℕ) → m < n → q m ≡ r m) → ((m : ℕ) → m < n → g m ≡ h m) →
+    spread n q g x ≡ spread n r h x
+unfolding spread
+spread-same zero q r g h x a b = refl
+spread-same (suc n) q r g h x a b =
+    rw (spread-same n q r g h x (λ m l. a m (omega arith)) (λ m l. b m (omega arith)), a n (omega arith), b n (omega arith))
+
+-- the document's moves, as turns
+pub moved-spread : (back : Bool) (n : ℕ) (p : ℕ → ℕ) (x : List ℤ) → movedBy back n p x ≡ spread n (toOf back p) (λ m. at x (fromOf back p m)) x
+unfolding movedBy fill putBack spread
+moved-spread false zero p x = refl
+moved-spread false (suc n) p x = rw (moved-spread false n p x)
+moved-spread true zero p x = refl
+moved-spread true (suc n) p x = rw (moved-spread true n p x)
+
+-- a line that is the whole front of a block
+pub line-moved : (back : Bool) (n : ℕ) (p : ℕ → ℕ) (x : List ℤ) → movedLine back n p 0 1 x ≡ movedBy back n p x
+unfolding movedLine
+line-moved back n p x =
+    spread-same n _ _ _ _ x (λ m l. front (toOf back p m)) (λ m l. ap (at x) (front (fromOf back p m))) ∙ sym (moved-spread back n p x)
+  where
+    front : (m : ℕ) → 0 + m * 1 ≡ m
+    front m = omega arith
+
+-- both ways of a permutation are permutations
+pub to-permutes : (back : Bool) {n : ℕ} {p : ℕ → ℕ} → Permutes n p → Permutes n (toOf back p)
+to-permutes true h = h
+to-permutes false {n} h = same-permutes n
+
+pub from-permutes : (back : Bool) {n : ℕ} {p : ℕ → ℕ} → Permutes n p → Permutes n (fromOf back p)
+from-permutes true {n} h = same-permutes n
+from-permutes false h = h
+
+-- a line moved through a copy of it
+pub moved-aside : (back : Bool) {n : ℕ} {p : ℕ → ℕ} (k s : ℕ) (x : List ℤ) {v : List ℤ} → n ≤ mostOrder → Permutes n p →
+    v ≡ fill n (λ m. at x (k + m * s)) (replicate 16 (pos 0)) →
+    spread n (λ m. k + toOf back p m * s) (λ m. at v (fromOf back p m)) x ≡ movedLine back n p k s x
+unfolding movedLine
+moved-aside back {n} k s x few h e =
+    spread-same n _ _ _ _ x (λ m l. refl)
+    (λ m l. rw e (fill-at n _ (replicate 16 (pos 0)) _ (from-permutes back h .below m l) few))
