@@ -7,22 +7,15 @@ use native.Mathlib.Omega.{arith}
 use lib.IntN.{ℤ}
 use Rattle.rules.specs.Numbers.{count}
 use Rattle.rules.specs.Factors.{factorAt, factorsFrom, factors}
-use Rattle.rules.specs.Stages.{Stage, Ran}
+use Rattle.rules.specs.Stages.{Stage}
 use Rattle.rules.specs.Shapes.{lineStage, lineStages}
 use Rattle.rules.specs.Answers.{further}
-use Rattle.rules.specs.Calls.{ranMemory}
 use Rattle.rules.specs.Laws.Cuts.{lines-append}
 use Rattle.rules.specs.Laws.Good.{AllGood}
 use Rattle.rules.specs.Laws.Kinds.{lines-good}
 use Rattle.laws.specs.Accepted.{Accepted, further-next}
 use Rattle.laws.specs.Sound.{sheet-sound, factors-split}
-use Rattle.factor.specs.Blocks.{ranOk, ranStage}
 use Rattle.factor.specs.Loops.{Listed}
-use Rattle.line.specs.declared.runs.Outcome.{Outcome}
-
--- what a run gives, as the code holds it; a refused run holds the block that it was given
-abbrev pub outcome : Ran → List ℤ → Outcome
-outcome ran x = record { ok = ranOk ran; stage = ranStage ran; block = ranMemory ran x }
 
 -- the stages of a sheet
 abbrev pub stagesOf : List ℤ → List Stage

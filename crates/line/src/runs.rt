@@ -1,11 +1,11 @@
 // All factors of a checked sheet, one after another.
-ghost use mathlib.Core.Path.{_≡_};
 ghost use Rattle.rules.specs.Numbers.{bound, count};
 ghost use Rattle.rules.specs.Stages.{nearest, runInverse};
 ghost use Rattle.laws.specs.Accepted.{Accepted};
+ghost use Rattle.factor.specs.Blocks.{Reached};
 ghost use Rattle.factor.specs.Reach.{Numbers};
 ghost use Rattle.factor.specs.Ways.{limitOf, runBy};
-ghost use Rattle.line.specs.Runs.{outcome, stagesOf};
+ghost use Rattle.line.specs.Runs.{stagesOf};
 use crate::stages::take_factor;
 use crate::stages::undo_factor;
 use factor::Way;
@@ -23,7 +23,7 @@ pub struct Outcome {
 // First to last: forward, or the allowances.
 pub fn take_all(way: Way, sheet: &[i32], x: [i32; 16]) -> Outcome
     requires { ⌜ Accepted (now sheet) × Numbers (limitOf way) x ⌝ }
-    ensures { λ r. ⌜ r ≡ outcome (runBy way (count (now (sheet .entry)) 0) (stagesOf (now (sheet .entry))) x) x ⌝ }
+    ensures { λ r. ⌜ Reached (runBy way (count (now (sheet .entry)) 0) (stagesOf (now (sheet .entry))) x) (r .ok) (r .stage) (r .block) ⌝ }
 {
     let n = count_at(sheet, 0);
     let many = count_at(sheet, 1);
@@ -51,7 +51,7 @@ pub fn take_all(way: Way, sheet: &[i32], x: [i32; 16]) -> Outcome
 // Inverse: last to first.
 pub fn undo_all(sheet: &[i32], y: [i32; 16]) -> Outcome
     requires { ⌜ Accepted (now sheet) × Numbers bound y ⌝ }
-    ensures { λ r. ⌜ r ≡ outcome (runInverse nearest (count (now (sheet .entry)) 0) (stagesOf (now (sheet .entry))) y) y ⌝ }
+    ensures { λ r. ⌜ Reached (runInverse nearest (count (now (sheet .entry)) 0) (stagesOf (now (sheet .entry))) y) (r .ok) (r .stage) (r .block) ⌝ }
 {
     let n = count_at(sheet, 0);
     let many = count_at(sheet, 1);

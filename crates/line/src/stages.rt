@@ -20,7 +20,7 @@ use factor::spot_at;
 // Applied, or on allowances.
 pub fn take_factor(way: Way, sheet: &[i32], n: usize, i: usize, x: [i32; 16]) -> Stepped
     requires { ⌜ (1 ≤ n) × (n ≤ mostOrder) × FactorRead (now sheet) n i × Numbers (limitOf way) x ⌝ }
-    ensures { λ r. ⌜ Step (limitOf way) n (takenBy way n (lineStage n (factorAt (now (sheet .entry)) n i)) x) x (r .ok) (r .block) ⌝ }
+    ensures { λ r. ⌜ Step (limitOf way) n (takenBy way n (lineStage n (factorAt (now (sheet .entry)) n i)) x) (r .ok) (r .block) ⌝ }
 {
     let f = spot_at(sheet, n, i);
     if is_move(f) {
@@ -37,7 +37,7 @@ pub fn take_factor(way: Way, sheet: &[i32], n: usize, i: usize, x: [i32; 16]) ->
 // Undone.
 pub fn undo_factor(sheet: &[i32], n: usize, i: usize, y: [i32; 16]) -> Stepped
     requires { ⌜ (1 ≤ n) × (n ≤ mostOrder) × FactorRead (now sheet) n i × Numbers bound y ⌝ }
-    ensures { λ r. ⌜ Step bound n (undo nearest n (lineStage n (factorAt (now (sheet .entry)) n i)) y) y (r .ok) (r .block) ⌝ }
+    ensures { λ r. ⌜ Step bound n (undo nearest n (lineStage n (factorAt (now (sheet .entry)) n i)) y) (r .ok) (r .block) ⌝ }
 {
     let f = spot_at(sheet, n, i);
     if is_move(f) {

@@ -52,7 +52,7 @@ fn out_at(sheet: &[i32], f: Spot, m: usize, x: &[i32; 16]) -> i64
 // A factor with weights, applied: every element from the old block.
 pub fn weigh(sheet: &[i32], f: Spot, x: [i32; 16]) -> Stepped
     requires { ⌜ Lies (now sheet) f × Numbers bound x ⌝ }
-    ensures { λ r. ⌜ Step bound (f .order) (fill (f .order) (outAt (now (sheet .entry)) f x) x) x (r .ok) (r .block) ⌝ }
+    ensures { λ r. ⌜ Step bound (f .order) (fill (f .order) (outAt (now (sheet .entry)) f x) x) (r .ok) (r .block) ⌝ }
 {
     let n = f.order;
     let mut y = x;
@@ -81,7 +81,7 @@ fn back_at(sheet: &[i32], f: Spot, m: usize, x: &[i32; 16]) -> i64
 // A factor with weights, undone in place. It stops at the first number beyond the bound: later sums could leave 64 bits.
 pub fn unweigh(sheet: &[i32], f: Spot, y: [i32; 16]) -> Stepped
     requires { ⌜ Lies (now sheet) f × (f .row < f .order) × Numbers bound y ⌝ }
-    ensures { λ r. ⌜ Step bound (f .order) (walkLine (now (sheet .entry)) f (f .order) y) y (r .ok) (r .block) ⌝ }
+    ensures { λ r. ⌜ Step bound (f .order) (walkLine (now (sheet .entry)) f (f .order) y) (r .ok) (r .block) ⌝ }
 {
     let n = f.order;
     let mut x = y;
@@ -137,7 +137,7 @@ fn allow_at(sheet: &[i32], f: Spot, m: usize, b: &[i32; 16]) -> i64
 // The allowances after a factor with weights.
 pub fn allow_weights(sheet: &[i32], f: Spot, b: [i32; 16]) -> Stepped
     requires { ⌜ Lies (now sheet) f × Numbers mostAllowance b ⌝ }
-    ensures { λ r. ⌜ Step mostAllowance (f .order) (fill (f .order) (allowAt (now (sheet .entry)) f b) b) b (r .ok) (r .block) ⌝ }
+    ensures { λ r. ⌜ Step mostAllowance (f .order) (fill (f .order) (allowAt (now (sheet .entry)) f b) b) (r .ok) (r .block) ⌝ }
 {
     let n = f.order;
     let mut c = b;

@@ -2,10 +2,11 @@
 use borrow.Author.Needs.{needs}
 use mathlib.Core.Path.{_≡_}
 use native.Mathlib.Omega.{arith}
-use lib.ListN.{length}
+use lib.IntN.{pos}
+use lib.ListN.{length, replicate}
 use Rattle.laws.specs.Accepted.{accepted-order}
 use Rattle.factor.specs.Ways.{limitOf, takenBy}
-use Rattle.factor.specs.Blocks.{zeros}
+use Rattle.factor.specs.Blocks.{zeros, reached-ends}
 use Rattle.factor.specs.Ends.{allowance-ends}
 use Rattle.line.specs.Runs.{stages-good}
 use Rattle.line.proofs.block.allowance_block.Statement.{statement}
@@ -33,7 +34,7 @@ returns c =
     let a = f .before .before .before .before .before in
     let s = a .before in
     rw (← (allowance-ends 16 (stages-good (s .pre .0)) (s .args .y .now) (s .pre .1) (accepted-order (s .pre .0) .most)))
-    (rw (a .take-all .ensures) at (f .finish .ensures))
+    (rw (reached-ends _ (a .take-all .ensures) (replicate 16 (pos 0)) 13 (s .args .y .now)) at (f .finish .ensures))
 
 pub allowance-block-spec : {M : Type 1} → statement M
 allowance-block-spec = tie.close (tie.spec take-all-requires finish-requires same-length returns)

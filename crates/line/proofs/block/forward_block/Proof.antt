@@ -8,7 +8,7 @@ use Rattle.rules.specs.Numbers.{bound}
 use Rattle.rules.specs.Stages.{runForward}
 use Rattle.laws.specs.Accepted.{accepted-order}
 use Rattle.factor.specs.Ways.{limitOf, takenBy}
-use Rattle.factor.specs.Blocks.{framed-numbers}
+use Rattle.factor.specs.Blocks.{framed, framed-numbers, reached-ends}
 use Rattle.factor.specs.Ends.{forward-ends, forward-out}
 use Rattle.line.specs.Runs.{stages-good}
 use Rattle.line.proofs.block.forward_block.Statement.{statement}
@@ -54,7 +54,7 @@ returns-2 c =
     let a = f .before .before .before .before .before in
     let s = a .before .before .before .before in
     rw (← (forward-ends 16 (stages-good (s .pre .0)) (s .args .x .now) (s .args .y .now) (s .pre .1) (s .pre .2)))
-    (rw (a .take-all .ensures, a .before .load .ensures) at (f .finish .ensures))
+    (rw (reached-ends _ (rw (a .before .load .ensures) at (a .take-all .ensures)) (framed 16 (s .args .x .now)) 11 (s .args .y .now)) at (f .finish .ensures))
 
 pub forward-block-spec : {M : Type 1} → statement M
 forward-block-spec =

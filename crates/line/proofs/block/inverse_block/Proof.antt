@@ -6,7 +6,7 @@ use native.Mathlib.Omega.{arith}
 use lib.ListN.{length}
 use Rattle.rules.specs.Numbers.{bound}
 use Rattle.laws.specs.Accepted.{accepted-order}
-use Rattle.factor.specs.Blocks.{framed-numbers}
+use Rattle.factor.specs.Blocks.{framed, framed-numbers, reached-ends}
 use Rattle.factor.specs.Ends.{inverse-ends, inverse-out}
 use Rattle.line.specs.Runs.{stages-good}
 use Rattle.line.proofs.block.inverse_block.Statement.{statement}
@@ -50,7 +50,7 @@ returns-2 c =
     let a = f .before .before .before .before .before in
     let s = a .before .before .before .before in
     rw (← (inverse-ends 16 (stages-good (s .pre .0)) (s .args .x .now) (s .args .y .now) (s .pre .1) (s .pre .2)))
-    (rw (a .undo-all .ensures, a .before .load .ensures) at (f .finish .ensures))
+    (rw (reached-ends _ (rw (a .before .load .ensures) at (a .undo-all .ensures)) (framed 16 (s .args .x .now)) 11 (s .args .y .now)) at (f .finish .ensures))
 
 pub inverse-block-spec : {M : Type 1} → statement M
 inverse-block-spec =

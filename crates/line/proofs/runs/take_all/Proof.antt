@@ -11,12 +11,11 @@ use Rattle.rules.specs.Factors.{factors}
 use Rattle.rules.specs.Stages.{Ran}
 use Rattle.rules.specs.Shapes.{lineStages}
 use Rattle.rules.specs.Answers.{further, start}
-use Rattle.rules.specs.Calls.{ranMemory}
 use Rattle.rules.specs.Laws.Runs.{loop-start}
 use Rattle.laws.specs.Accepted.{Accepted, FactorRead, accepted-order, order-counts, count-counts, further-next}
 use Rattle.factor.specs.declared.Way.{Way}
 use Rattle.factor.specs.Ways.{limitOf, takenBy, runBy}
-use Rattle.factor.specs.Blocks.{ranOk, ranStage}
+use Rattle.factor.specs.Blocks.{reached-done, reached-stop}
 use Rattle.factor.specs.Steps.{Step}
 use Rattle.factor.specs.Loops.{Stands, turn-on, turn-stop, turns-done}
 use Rattle.line.specs.Runs.{at-stage, ahead, ahead-listed}
@@ -73,16 +72,15 @@ told :
     let s = c .before .before .before .before .before .args .sheet .now in
     let l = c .before .before .loop in
     let way = c .before .before .before .before .before .args .way in
-    Step (limitOf way) (count s 0) (takenBy way (count s 0) (at-stage s (count s 0) (l .t)) (l .v)) (l .v) (c .take-factor .result .ok) (c .take-factor .result .block)
+    Step (limitOf way) (count s 0) (takenBy way (count s 0) (at-stage s (count s 0) (l .t)) (l .v)) (c .take-factor .result .ok) (c .take-factor .result .block)
 told c = let l = c .before .before .loop in rw (l .inv .1, l .inv .3) at (c .take-factor .ensures)
 
 returns : tie.Need-returns Inv-loop μ-loop
-unfolding ranOk ranStage ranMemory
 returns c =
     let i = c .before .before .before in
     let l = i .before .loop in
     let s = i .before .before .before .before in
-    rw (turn-stop (ahead-listed (s .args .sheet .now) _ _) (l .t) (rw (l .inv .2) at (i .loop-test .taken)) (l .inv .4) (told (c .before .before)) (not-true _ (c .if1 .taken)))
+    reached-stop (turn-stop (ahead-listed (s .args .sheet .now) _ _) (l .t) (rw (l .inv .2) at (i .loop-test .taken)) (l .inv .4) (told (c .before .before)) (not-true _ (c .if1 .taken)))
 
 next-factor-requires : tie.Need-next-factor-requires Inv-loop μ-loop
 next-factor-requires c κs = let i = c .before .before .before .before in let r = ranged (i .before) in (r .0, r .1, here i)
@@ -107,12 +105,11 @@ loop-again c =
     )
 
 returns-2 : tie.Need-returns-2 Inv-loop μ-loop
-unfolding ranOk ranStage ranMemory
 returns-2 c =
     let l = c .before .loop in
     let s = c .before .before .before .before in
     let e : l .t ≡ count (s .args .sheet .now) 1 = omega (arith, l .inv .2) in
-    rw (turns-done (ahead-listed (s .args .sheet .now) _ _) (rw e at (l .inv .4)))
+    reached-done (turns-done (ahead-listed (s .args .sheet .now) _ _) (rw e at (l .inv .4)))
 
 pub take-all-spec : {M : Type 1} → statement M
 take-all-spec =

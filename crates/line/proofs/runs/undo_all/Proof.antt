@@ -10,10 +10,9 @@ use Rattle.rules.specs.Numbers.{bound, mostOrder, count}
 use Rattle.rules.specs.Factors.{factors}
 use Rattle.rules.specs.Stages.{Ran, nearest, undo, runInverse}
 use Rattle.rules.specs.Shapes.{lineStages}
-use Rattle.rules.specs.Calls.{ranMemory}
 use Rattle.rules.specs.Laws.Runs.{loop-start}
 use Rattle.laws.specs.Accepted.{FactorRead, accepted-order, order-counts, count-counts}
-use Rattle.factor.specs.Blocks.{ranOk, ranStage}
+use Rattle.factor.specs.Blocks.{reached-done, reached-stop}
 use Rattle.factor.specs.Steps.{Step}
 use Rattle.factor.specs.Loops.{Stands, turn-on, turn-stop, turns-done}
 use Rattle.line.specs.Runs.{at-stage, behind, behind-listed}
@@ -78,18 +77,17 @@ told :
     (c : tie.After-undo-factor Inv-loop μ-loop) →
     let s = c .before .before .before .before .before .before .args .sheet .now in
     let l = c .before .before .before .loop in
-    Step bound (count s 0) (undo nearest (count s 0) (at-stage s (count s 0) (count s 1 - suc (l .t))) (l .v)) (l .v) (c .undo-factor .result .ok) (c .undo-factor .result .block)
+    Step bound (count s 0) (undo nearest (count s 0) (at-stage s (count s 0) (count s 1 - suc (l .t))) (l .v)) (c .undo-factor .result .ok) (c .undo-factor .result .block)
 told c =
     let l = c .before .before .before .loop in
     rw (l .inv .1, c .before .start-of .ensures, last (c .before .before)) at (c .undo-factor .ensures)
 
 returns : tie.Need-returns Inv-loop μ-loop
-unfolding ranOk ranStage ranMemory
 returns c =
     let i = c .before .before .before .before in
     let l = i .before .loop in
     let s = i .before .before .before .before in
-    rw (turn-stop (behind-listed (s .args .sheet .now) _ _) (l .t) (rw (l .inv .2) at (i .loop-test .taken)) (l .inv .3) (told (c .before .before)) (not-true _ (c .if1 .taken)))
+    reached-stop (turn-stop (behind-listed (s .args .sheet .now) _ _) (l .t) (rw (l .inv .2) at (i .loop-test .taken)) (l .inv .3) (told (c .before .before)) (not-true _ (c .if1 .taken)))
 
 add-t : tie.Need-add-t Inv-loop μ-loop
 add-t c = omega arith
@@ -110,12 +108,11 @@ loop-again c =
     )
 
 returns-2 : tie.Need-returns-2 Inv-loop μ-loop
-unfolding ranOk ranStage ranMemory
 returns-2 c =
     let l = c .before .loop in
     let s = c .before .before .before .before in
     let e : l .t ≡ count (s .args .sheet .now) 1 = omega (arith, l .inv .2) in
-    rw (turns-done (behind-listed (s .args .sheet .now) _ _) (rw e at (l .inv .3)))
+    reached-done (turns-done (behind-listed (s .args .sheet .now) _ _) (rw e at (l .inv .3)))
 
 pub undo-all-spec : {M : Type 1} → statement M
 undo-all-spec =

@@ -58,7 +58,6 @@ returns c =
     (beyond-there mostAllowance (s .args .f .order) (fill (s .args .f .order) (F s) (s .args .t3)) m (F s m) h
     (fill-at _ (F s) (s .args .t3) m h (let o = s .pre .0 .order in omega (arith, len s)))
     (test-no mostAllowance (value (c .before .before)) (c .before .is-within .ensures) (not-true _ (c .if1 .taken))))
-    (s .pre .1)
 
 held :
     (c : tie.Else1 Inv-loop μ-loop) →

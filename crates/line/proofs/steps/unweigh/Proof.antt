@@ -82,7 +82,6 @@ returns c =
     (beyond-there bound n (W s n) (P s t) (F s t) (permutes s .below t h)
     (walk-stays (permutes s) (backAt (s .args .sheet .now) (s .args .f)) (s .args .y) (let o = s .pre .0 .order in omega (arith, len s)) t n h (omega arith))
     (test-no bound (value (c .before .before)) (c .before .is-within .ensures) (not-true _ (c .if1 .taken))))
-    (s .pre .2)
 
 held :
     (c : tie.Else1 Inv-loop μ-loop) →
