@@ -1,4 +1,4 @@
-// What main.c times: the calls of the library (crates/bench) and the same calls in plain C (twin.c, twin2.c).
+// What main.c times and stack.c measures: the calls of the library (crates/bench), and the runs in plain C (twin.c, twin2.c).
 #ifndef BENCH_H
 #define BENCH_H
 #include <stddef.h>
@@ -11,14 +11,26 @@ struct answer {
 
 enum { ORDER = 16, COUNT = 32, ENTRY = 16384, SAMPLE = 16777215 };
 
-// One dimension: a sheet, a block, the room for the result. A slice of Rattle is a pointer and a length.
+// Sheets, recipe bytes, the program's text. A slice of Rattle is a pointer and a length.
+struct answer bench_check(const int32_t *s, size_t sn);
+struct answer bench_check_pair(const int32_t *col, size_t cn, const int32_t *row, size_t rn);
+size_t bench_rest(const int32_t *col, size_t cn, const int32_t *row, size_t rn); // how long the rest is
+struct answer bench_read(const uint8_t *bytes, size_t bn, int32_t *out, size_t on);
+struct answer bench_write(const int32_t *s, size_t sn, uint8_t *out, size_t on);
+struct answer bench_built_in(int32_t *out, size_t on);
+struct answer bench_first_printing(int32_t *out, size_t on);
+size_t bench_text_of(const uint8_t *input, size_t in, uint8_t *out, size_t on); // how long the text is
+
+// One dimension: a sheet, a block, the room for the result.
 typedef struct answer line_call(const int32_t *s, size_t sn, const int32_t *x, size_t xn, int32_t *y, size_t yn);
 line_call bench_forward, bench_inverse, twin_forward, twin_inverse;
+struct answer bench_allowance(const int32_t *s, size_t sn, int32_t *y, size_t yn);
 
 // Two dimensions: a column sheet, a row sheet, a block row by row, the room for the result.
 typedef struct answer block_call(const int32_t *col, size_t cn, const int32_t *row, size_t rn, const int32_t *x, size_t xn,
 				 int32_t *y, size_t yn);
 block_call bench_rectangle_forward, bench_rectangle_inverse;
+struct answer bench_rectangle_allowance(const int32_t *col, size_t cn, const int32_t *row, size_t rn, int32_t *y, size_t yn);
 block_call twin2_forward, twin2_inverse;	// separable sums
 block_call plain2_forward, plain2_inverse;	// the double sum as document 01 prints it
 

@@ -1,74 +1,12 @@
 // Times the library's calls and their twins in C, by turns, in one process, and prints the best round of each. Before that it
 // holds every answer and every output of the one to the other's: on the blocks that are timed, on blocks at and beyond the bound,
 // and on sheets with a fault. usage: main [ROUNDS [SEED]]
-// Two dimensions are compiled in by -DRECTANGLE (bench/run).
 #include "bench.h"
+#include "sheets.h"
 #include <stdio.h>
 #include <stdlib.h>
 #include <string.h>
 #include <time.h>
-
-static uint64_t state;
-
-static uint64_t next(void) // xorshift64*
-{
-	state ^= state >> 12;
-	state ^= state << 25;
-	state ^= state >> 27;
-	return state * 2685821657736338717u;
-}
-
-static int32_t between(int32_t lo, int32_t hi)
-{
-	return lo + (int32_t)((next() >> 33) % (uint64_t)((int64_t)hi - lo + 1));
-}
-
-// ---- recipes
-
-struct sheet {
-	size_t len;
-	int32_t at[4386];
-};
-
-static const int32_t built_in[45] = {
-	4, 5, 1, 3, 2, 0, 1, 2, 1, 1, 1, 1, 1612, 0, -4096, -815, 3281, 0, 3, -1, 1, 1, 1, 6238, 2048, -2676, 3101, -2484, 0,
-	2, 1, 1, 1, 1, -2106, 2106, -4096, -872, 3281, 0, 1, 3, 2, 1, 0};
-
-static void put(struct sheet *s, int32_t v)
-{
-	s->at[s->len++] = v;
-}
-
-// Entries up to size; the kinds are given, all else comes from the seed.
-static struct sheet made(int32_t n, const char *kinds, int32_t size)
-{
-	struct sheet s = {0};
-	put(&s, n);
-	put(&s, (int32_t)strlen(kinds));
-	for (; *kinds; kinds++) {
-		put(&s, *kinds - '0');
-		if (*kinds == '1') {
-			int32_t *p = s.at + s.len;
-			for (int32_t e = 0; e < n; e++) {
-				put(&s, e);
-				int32_t k = between(0, e), v = p[k];
-				p[k] = p[e];
-				p[e] = v;
-			}
-			continue;
-		}
-		int32_t many = n * (n - 1) / 2;
-		if (*kinds == '4') {
-			put(&s, between(0, n - 1));
-			many = n - 1;
-		}
-		for (int32_t e = 0; e < n; e++)
-			put(&s, between(0, 1) ? 1 : -1);
-		for (int32_t e = 0; e < many; e++)
-			put(&s, between(-size, size));
-	}
-	return s;
-}
 
 // ---- a task: a recipe, a direction, the library's call and the twins
 
@@ -305,8 +243,7 @@ static void time_strips(int rounds)
 						   {0, bench_rectangle_strip_inverse},
 						   {0, twin2_strip_inverse}};
 	printf("\n%-26s %7s %-8s %9s %10s %8s\n", "strip", "blocks", "", "lib. ns", "C ns", "ratio");
-	a.len = 45;
-	memcpy(a.at, built_in, sizeof built_in);
+	a = built_in();
 	all_strips("line of 4, built-in", &a, NULL, line, rounds);
 	a = made(16, "23412341", 2048);
 	all_strips("line of 16, 8 factors", &a, NULL, line, rounds);
@@ -320,16 +257,15 @@ static void time_strips(int rounds)
 int main(int argc, char **argv)
 {
 	int rounds = argc > 1 ? atoi(argv[1]) : 25;
-	state = argc > 2 ? strtoull(argv[2], NULL, 10) | 1 : 88172645463325253u;
+	if (argc > 2)
+		seed(strtoull(argv[2], NULL, 10));
 	printf("%-34s %-8s %10s %10s %8s\n", "recipe", "", "library ns", "C ns", "ratio");
 	static struct sheet a, b;
 	static const struct call line[6] = {{bench_forward, 0}, {twin_forward, 0}, {0, 0}, {bench_inverse, 0}, {twin_inverse, 0}, {0, 0}};
-	a.len = 45;
-	memcpy(a.at, built_in, sizeof built_in);
+	a = built_in();
 	both("line of 4, built-in, 5 factors", &a, NULL, line, 20000, rounds);
 	a = made(16, "23412341", 2048);
 	both("line of 16, 8 factors", &a, NULL, line, 20000, rounds);
-#ifdef RECTANGLE
 	static const struct call block[6] = {{0, bench_rectangle_forward}, {0, twin2_forward}, {0, plain2_forward},
 					     {0, bench_rectangle_inverse}, {0, twin2_inverse}, {0, plain2_inverse}};
 	a = made(8, "12342", 1024);
@@ -338,9 +274,6 @@ int main(int argc, char **argv)
 	a = made(16, "12342", 1024);
 	b = made(16, "12342", 1024);
 	both("block of 16 by 16, 5 factors", &a, &b, block, 250, rounds);
-#else
-	(void)b;
-#endif
 	printf("%zu answers and outputs equal, %zu of them refusals\n", asked, refused);
 	time_strips(rounds < 9 ? rounds : 9);
 	return 0;

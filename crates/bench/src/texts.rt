@@ -1,0 +1,10 @@
+// The text that the program prints.
+ghost use Rattle.session.specs.Program.{printed};
+ghost use Rattle.session.specs.Writing.{Wrote};
+
+#[no_mangle]
+pub extern "C" fn bench_text_of(input: &[u8], out: &mut [u8]) -> usize
+    ensures { λ r. ⌜ Wrote (now (out .entry)) 0 (printed (now (input .entry))) (now (out .exit)) r ⌝ }
+{
+    session::text_of(input, out)
+}
