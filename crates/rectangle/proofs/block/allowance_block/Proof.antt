@@ -1,41 +1,32 @@
 -- The run of 0 in its room (`allowance-ends`).
 use borrow.Author.Needs.{needs}
-use mathlib.Core.Path.{sym}
 use native.Mathlib.Omega.{arith}
-use lib.IntN.{pos}
-use lib.ListN.{replicate, length-replicate}
 use Rattle.factor.specs.Ways.{limitOf, takenBy}
-use Rattle.factor.specs.Blocks.{zeros, reached-ends}
+use Rattle.factor.specs.Blocks.{framed, zeros}
 use Rattle.factor.specs.Ends.{allowance-ends}
 use Rattle.rectangle.specs.Runs.{stages-good, size-most}
 use Rattle.rectangle.proofs.block.allowance_block.Statement.{statement}
 use Rattle.rectangle.proofs.block.allowance_block.Tie as tie
 
-take-all-requires : tie.Need-take-all-requires
-unfolding limitOf
-take-all-requires c κs = (c .before .pre .0, zeros 256, length-replicate 256 (pos 0))
+slice-aggregate-take-block : tie.Need-slice-aggregate-take-block
+slice-aggregate-take-block c = search needs
 
-slice-aggregate-finish : tie.Need-slice-aggregate-finish
-slice-aggregate-finish c = sym (c .before .take-all .ensures .1)
-
-finish-requires : tie.Need-finish-requires
-finish-requires c κs =
-    let a = c .before .before in
-    let s = a .before .before in
-    let m = size-most (s .pre .0) in
-    omega (arith, s .pre .1, a .take-all .ensures .1)
+take-block-requires : tie.Need-take-block-requires
+unfolding limitOf framed
+take-block-requires c κs =
+    let s = c .before .before in
+    let m = size-most (s .pre .0) in (s .pre .0, omega arith, zeros 256, omega (arith, s .pre .1))
 
 same-length : tie.Need-same-length
 same-length c = search needs
 
 returns : tie.Need-returns
-unfolding limitOf takenBy
+unfolding limitOf takenBy framed
 returns c =
     let f = c .before in
-    let a = f .before .before .before in
-    let s = a .before .before in
-    rw (← (allowance-ends 256 (stages-good (s .pre .0)) (s .args .y .now) (s .pre .1) (size-most (s .pre .0))))
-    (rw (reached-ends _ (a .take-all .ensures .0) (replicate 256 (pos 0)) 13 (s .args .y .now)) at (f .finish .ensures))
+    let s = f .before .before .before in
+    rw (← (allowance-ends 256 (stages-good (s .pre .0)) (s .args .y .now) (s .pre .1) (size-most (s .pre .0)))) (f .take-block .ensures)
 
 pub allowance-block-spec : {M : Type 1} → statement M
-allowance-block-spec = tie.close (tie.spec take-all-requires slice-aggregate-finish finish-requires same-length returns)
+allowance-block-spec =
+    tie.close (tie.spec slice-aggregate-take-block take-block-requires same-length returns)
