@@ -2,6 +2,7 @@
 ghost use mathlib.Core.Path.{_≡_};
 ghost use Prim.Native.Nat.{_+_, _≤_, _<_};
 ghost use lib.IntN.{pos, _+ℤ_};
+ghost use lib.ListN.{replicate};
 ghost use lib.Signed.{shrZ};
 ghost use mir.Syntax.{w64};
 ghost use mir.Val.{SFits};
@@ -28,17 +29,17 @@ fn raise_joint(s: i64) -> i64
     (s + 16777215) >> 24
 }
 
-// The sums of row i over the n columns of a block of allowances, with magnitudes.
-pub fn size_sums_at(col: &[i32], f: Spot, i: usize, b: &[i32; 256], n: usize) -> [i64; 16]
-    requires { ⌜ Lies (now col) f × (i < f .order) × (n ≤ 16) × Numbers mostAllowance (now b) ⌝ }
-    ensures { λ r. ⌜ r ≡ sizeSums (now (col .entry)) f i (now (b .entry)) n ⌝ }
+// The sums of row i over the n columns of a block of allowances, with magnitudes, into v.
+pub fn size_sums_at(col: &[i32], f: Spot, i: usize, b: &[i32; 256], n: usize, v: &mut [i64; 16])
+    requires { ⌜ Lies (now col) f × (i < f .order) × (n ≤ 16) × Numbers mostAllowance (now b) × (now v ≡ replicate 16 (pos 0)) ⌝ }
+    ensures { λ _. ⌜ now (v .exit) ≡ sizeSums (now (col .entry)) f i (now (b .entry)) n ⌝ }
 {
     let r = row_of(f, i);
     let at = r.at;
     let left = r.left;
     let right = r.right;
     let a = magnitudes(col, at, left + right);
-    column_sums(&a, Row { at: 0, left, right }, i, 4096, b, n)
+    column_sums(&a, Row { at: 0, left, right }, i, 4096, b, n, v)
 }
 
 // The sum of the element in column j, with magnitudes.

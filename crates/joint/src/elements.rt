@@ -2,6 +2,7 @@
 ghost use mathlib.Core.Path.{_≡_};
 ghost use Prim.Native.Nat.{_+_, _≤_, _<_};
 ghost use lib.IntN.{pos, _+ℤ_, _*ℤ_};
+ghost use lib.ListN.{replicate};
 ghost use lib.Signed.{shrZ};
 ghost use mir.Syntax.{w32, w64};
 ghost use mir.Val.{SFits};
@@ -52,12 +53,12 @@ fn both_signs(d: i32, e: i32) -> i32
     d * e
 }
 
-// The sums of row i over the n columns of a block.
-pub fn sums_at(col: &[i32], f: Spot, i: usize, x: &[i32; 256], n: usize) -> [i64; 16]
-    requires { ⌜ Lies (now col) f × (i < f .order) × (n ≤ 16) × Numbers bound (now x) ⌝ }
-    ensures { λ r. ⌜ r ≡ sumsAt (now (col .entry)) f i (now (x .entry)) n ⌝ }
+// The sums of row i over the n columns of a block, into v.
+pub fn sums_at(col: &[i32], f: Spot, i: usize, x: &[i32; 256], n: usize, v: &mut [i64; 16])
+    requires { ⌜ Lies (now col) f × (i < f .order) × (n ≤ 16) × Numbers bound (now x) × (now v ≡ replicate 16 (pos 0)) ⌝ }
+    ensures { λ _. ⌜ now (v .exit) ≡ sumsAt (now (col .entry)) f i (now (x .entry)) n ⌝ }
 {
-    column_sums(col, row_of(f, i), i, own_of(sign_at(col, f, i)), x, n)
+    column_sums(col, row_of(f, i), i, own_of(sign_at(col, f, i)), x, n, v)
 }
 
 // The rounded sum of the element in column j.

@@ -34,7 +34,8 @@ fn weigh_row(col: &[i32], fa: Spot, row: &[i32], fb: Spot, i: usize, x: &mut [i3
     ensures { λ ok. ⌜ Went bound (plain (outOf (now (col .entry)) fa (now (row .entry)) fb (now (x .entry)))) (inRow (fb .order) i) (fb .order) (now (x .entry)) (now (x .exit)) ok ⌝ }
 {
     let n = fb.order;
-    let v = sums_at(col, fa, i, x, n);
+    let mut v = [0i64; 16];
+    sums_at(col, fa, i, x, n, &mut v);
     for j in 0..n {
         let e = i * n + j;
         let z = out_at(row, fb, j, sign_at(col, fa, i), &v, x[e]);
@@ -67,7 +68,8 @@ pub fn unweigh_row(
     ensures { λ ok. ⌜ Went bound (backOf (now (col .entry)) fa (now (row .entry)) fb) (λ u. inRow (fb .order) i (placeOf (fb .kind) (fb .order) (fb .row) u)) (fb .order) (now (x .entry)) (now (x .exit)) ok ⌝ }
 {
     let n = fb.order;
-    let mut v = sums_at(col, fa, i, x, n);
+    let mut v = [0i64; 16];
+    sums_at(col, fa, i, x, n, &mut v);
     for u in 0..n {
         let j = place_of(fb, u);
         let e = i * n + j;
@@ -90,7 +92,8 @@ fn allow_row(col: &[i32], fa: Spot, row: &[i32], fb: Spot, i: usize, x: &mut [i3
 {
     let n = fb.order;
     let whole = is_whole_row(col, fa, i);
-    let v = size_sums_at(col, fa, i, x, n);
+    let mut v = [0i64; 16];
+    size_sums_at(col, fa, i, x, n, &mut v);
     for j in 0..n {
         let e = i * n + j;
         let z = allow_at(row, fb, j, whole, &v, x[e]);

@@ -1,7 +1,8 @@
 // The sum of a joint stage in two steps, in 64 bits: the sums V over the columns for a row of the block, and a sum over V.
 ghost use mathlib.Core.Path.{_≡_};
 ghost use Prim.Native.Nat.{_+_, _*_, _≤_, _<_};
-ghost use lib.IntN.{_+ℤ_, _-ℤ_, _*ℤ_};
+ghost use lib.IntN.{pos, _+ℤ_, _-ℤ_, _*ℤ_};
+ghost use lib.ListN.{replicate};
 ghost use mir.Syntax.{w64};
 ghost use mir.Val.{SFits};
 ghost use Rattle.whole.specs.Diff.{Within};
@@ -64,16 +65,22 @@ fn column_sum(a: &[i32], r: Row, m: usize, own: i32, x: &[i32; 256], n: usize, k
     with_number(sum, own, x[m * n + k])
 }
 
-// Row m of a matrix, its diagonal own, times each of the n columns of the block.
-pub fn column_sums(a: &[i32], r: Row, m: usize, own: i32, x: &[i32; 256], n: usize) -> [i64; 16]
-    requires { ⌜ Band (now a) r m own × (n ≤ 16) × Numbers mostAllowance (now x) ⌝ }
-    ensures { λ s. ⌜ s ≡ columnSums (now (a .entry)) r m own (now (x .entry)) n ⌝ }
+// Row m of a matrix, its diagonal own, times each of the n columns of the block, into v: lent, so that there is one such vector.
+pub fn column_sums(
+    a: &[i32],
+    r: Row,
+    m: usize,
+    own: i32,
+    x: &[i32; 256],
+    n: usize,
+    v: &mut [i64; 16],
+)
+    requires { ⌜ Band (now a) r m own × (n ≤ 16) × Numbers mostAllowance (now x) × (now v ≡ replicate 16 (pos 0)) ⌝ }
+    ensures { λ _. ⌜ now (v .exit) ≡ columnSums (now (a .entry)) r m own (now (x .entry)) n ⌝ }
 {
-    let mut v = [0i64; 16];
     for k in 0..n {
         v[k] = column_sum(a, r, m, own, x, n, k);
     }
-    v
 }
 
 // Row m of a matrix, its diagonal own, times the sums v.

@@ -20,12 +20,12 @@ slice-aggregate-column-sums c = search needs
 
 column-sums-requires : tie.Need-column-sums-requires
 column-sums-requires c κs =
-    let s = c .before .before .before in
-    rw (c .before .magnitudes .ensures, c .before .before .row-of .ensures)
-    (sizes-band (s .pre .0) (s .args .i) (s .pre .1), s .pre .2, s .pre .3)
+    let m = c .before .before in
+    let s = m .before .before in
+    rw (m .magnitudes .ensures, m .before .row-of .ensures) (sizes-band (s .pre .0) (s .args .i) (s .pre .1), s .pre .2, s .pre .3, s .pre .4)
 
 returns : tie.Need-returns
-returns c = c .column-sums .ensures ∙ rw (c .before .before .magnitudes .ensures, c .before .before .before .row-of .ensures)
+returns c = c .column-sums .ensures ∙ (let m = c .before .before .before in rw (m .magnitudes .ensures, m .before .row-of .ensures))
 
 pub size-sums-at-spec : {M : Type 1} → statement M
 size-sums-at-spec =

@@ -29,11 +29,12 @@ own-of-requires c κs =
 
 column-sums-requires : tie.Need-column-sums-requires
 column-sums-requires c κs =
-    let s = c .before .before .before in
-    rw (own c, c .before .before .row-of .ensures) (band-at (s .pre .0) (s .args .i) (s .pre .1), s .pre .2, numbers-le (omega arith) (s .pre .3))
+    let o = c .before in
+    let s = o .before .before .before in
+    rw (own o, o .before .before .row-of .ensures) (band-at (s .pre .0) (s .args .i) (s .pre .1), s .pre .2, numbers-le (omega arith) (s .pre .3), s .pre .4)
 
 returns : tie.Need-returns
-returns c = c .column-sums .ensures ∙ rw (own (c .before), c .before .before .before .row-of .ensures)
+returns c = c .column-sums .ensures ∙ (let o = c .before .before in rw (own o, o .before .before .row-of .ensures))
 
 pub sums-at-spec : {M : Type 1} → statement M
 sums-at-spec =

@@ -30,30 +30,30 @@ is-whole-row-requires : tie.Need-is-whole-row-requires Inv-loop μ-loop
 is-whole-row-requires c κs = (c .pre .0, c .pre .2)
 
 size-sums-at-requires : tie.Need-size-sums-at-requires Inv-loop μ-loop
-size-sums-at-requires c κs = let s = c .before .before in (s .pre .0, s .pre .2, s .pre .1 .order, s .pre .3)
+size-sums-at-requires c κs = let s = c .before .before .before in (s .pre .0, s .pre .2, s .pre .1 .order, s .pre .3, refl)
 
 -- element e by the test and the sums of its row
 abbrev G : tie.After-size-sums-at Inv-loop μ-loop → ℕ → ℤ
-G c e = let s = c .before .before .before in allowAt (s .args .row .now) (s .args .fb) (e % s .args .fb .order) (c .before .before .is-whole-row .result) (c .size-sums-at .result) (at (s .args .x .now) e)
+G c e = let s = c .before .before .before .before in allowAt (s .args .row .now) (s .args .fb) (e % s .args .fb .order) (c .before .before .before .is-whole-row .result) (c .size-sums-at .last .1 .1 .1 .1 .1 .0) (at (s .args .x .now) e)
 
 link :
-    (c : tie.After-size-sums-at Inv-loop μ-loop) (j : ℕ) → j < c .before .before .before .args .fb .order →
-    let s = c .before .before .before in
+    (c : tie.After-size-sums-at Inv-loop μ-loop) (j : ℕ) → j < c .before .before .before .before .args .fb .order →
+    let s = c .before .before .before .before in
     allowOf (s .args .col .now) (s .args .fa) (s .args .row .now) (s .args .fb) (s .args .x .now) (s .args .i * s .args .fb .order + j) ≡ G c (s .args .i * s .args .fb .order + j)
 link c j l =
-    let s = c .before .before .before in
+    let s = c .before .before .before .before in
     allow-here (s .args .col .now) (s .args .fa) (s .args .row .now) (s .args .fb) (s .args .x .now) (s .args .i) j l
-    ∙ rw (col-of 0 (s .args .fb .order) (s .args .i) j l, c .before .before .is-whole-row .ensures, c .size-sums-at .ensures)
+    ∙ rw (col-of 0 (s .args .fb .order) (s .args .i) j l, c .before .before .before .is-whole-row .ensures, c .size-sums-at .ensures)
 
 loop-holds : tie.Need-loop-holds Inv-loop μ-loop
 unfolding walk
-loop-holds c = (omega arith, refl, c .before .before .before .pre .3)
+loop-holds c = (omega arith, refl, c .before .before .before .before .pre .3)
 
 abbrev P : tie.In-loop Inv-loop μ-loop → ℕ
-P c = c .before .before .before .before .before .args .i * c .before .before .before .before .before .args .fb .order + c .before .loop .j
+P c = c .before .before .before .before .before .before .args .i * c .before .before .before .before .before .before .args .fb .order + c .before .loop .j
 
 room : (c : tie.In-loop Inv-loop μ-loop) → P c < 256
-room c = let s = c .before .before .before .before .before in in-block (c .before .loop .j) (s .pre .0 .order) (s .pre .1 .order) (s .pre .2) (c .loop-test .taken)
+room c = let s = c .before .before .before .before .before .before in in-block (c .before .loop .j) (s .pre .0 .order) (s .pre .1 .order) (s .pre .2) (c .loop-test .taken)
 
 mul-e : tie.Need-mul-e Inv-loop μ-loop
 mul-e c = let h = room c in omega arith
@@ -68,20 +68,20 @@ element-copy-out-allow-at : tie.Need-element-copy-out-allow-at Inv-loop μ-loop
 element-copy-out-allow-at c = let h = room (c .before) in omega arith
 
 -- the element, which this row has not written yet
-own : (c : tie.In-loop Inv-loop μ-loop) → toZ w32 (ofZ w32 (at (c .before .loop .x) (P c))) ≡ at (c .before .before .before .before .before .args .x .now) (P c)
-own c = let l = c .before .loop in let s = c .before .before .before .before .before in reads w32 (l .inv .2 .small (P c)) tt ∙ row-ahead _ (s .args .fb .order) (s .args .i) (l .j) (s .args .x .now) (l .inv .1)
+own : (c : tie.In-loop Inv-loop μ-loop) → toZ w32 (ofZ w32 (at (c .before .loop .x) (P c))) ≡ at (c .before .before .before .before .before .before .args .x .now) (P c)
+own c = let l = c .before .loop in let s = c .before .before .before .before .before .before in reads w32 (l .inv .2 .small (P c)) tt ∙ row-ahead _ (s .args .fb .order) (s .args .i) (l .j) (s .args .x .now) (l .inv .1)
 
 allow-at-requires : tie.Need-allow-at-requires Inv-loop μ-loop
 allow-at-requires c κs =
     let l = c .before .before in
-    let s = l .before .before .before .before .before in
+    let s = l .before .before .before .before .before .before in
     rw (l .before .before .size-sums-at .ensures, own l)
     (s .pre .1, l .loop-test .taken, size-sums-small (s .pre .0) (s .args .i) (s .pre .2) (s .args .fb .order) (s .pre .3), s .pre .3 .small (P l))
 
 value : (c : tie.After-allow-at Inv-loop μ-loop) → toZ w64 (ofZ w64 (c .allow-at .result)) ≡ G (c .before .before .before .before .before) (P (c .before .before .before))
 value c =
     let l = c .before .before .before in
-    let s = l .before .before .before .before .before in
+    let s = l .before .before .before .before .before .before in
     back w64 _ (c .allow-at .ok) ∙ c .allow-at .ensures ∙ rw (own l, col-of 0 (s .args .fb .order) (s .args .i) (l .before .loop .j) (l .loop-test .taken))
 
 is-within-requires : tie.Need-is-within-requires Inv-loop μ-loop
@@ -108,8 +108,8 @@ held c = test-yes mostAllowance (value (c .before .before)) (c .before .is-withi
 cast-x : tie.Need-cast-x Inv-loop μ-loop
 cast-x c = rw (value (c .before .before)) (fits (held c) tt)
 
-mul-t16 : tie.Need-mul-t16 Inv-loop μ-loop
-mul-t16 c = let h = room (c .before .before .before .before .before) in omega arith
+mul-t17 : tie.Need-mul-t17 Inv-loop μ-loop
+mul-t17 c = let h = room (c .before .before .before .before .before) in omega arith
 
 element-set-from-x : tie.Need-element-set-from-x Inv-loop μ-loop
 element-set-from-x c = let h = room (c .before .before .before .before .before) in omega arith
@@ -131,7 +131,7 @@ loop-again c =
 
 returns-2 : tie.Need-returns-2 Inv-loop μ-loop
 returns-2 c =
-    let s = c .before .before .before .before .before in
+    let s = c .before .before .before .before .before .before in
     let l = c .before .loop in
     let e : l .j ≡ s .args .fb .order = omega arith in
     record {
@@ -157,7 +157,7 @@ allow-row-spec =
     is-within-requires
     returns
     cast-x
-    mul-t16
+    mul-t17
     element-set-from-x
     add-j
     loop-less

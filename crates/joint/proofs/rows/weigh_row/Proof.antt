@@ -25,17 +25,17 @@ abbrev μ-loop : tie.MeasureT-loop
 μ-loop col fa row fb i x₀ n v j₀ x j = n - j
 
 sums-at-requires : tie.Need-sums-at-requires Inv-loop μ-loop
-sums-at-requires c κs = let s = c .before in (s .pre .0, s .pre .2, s .pre .1 .order, s .pre .3)
+sums-at-requires c κs = let s = c .before .before in (s .pre .0, s .pre .2, s .pre .1 .order, s .pre .3, refl)
 
 loop-holds : tie.Need-loop-holds Inv-loop μ-loop
 unfolding walk
-loop-holds c = (omega arith, refl, c .before .before .pre .3)
+loop-holds c = (omega arith, refl, c .before .before .before .pre .3)
 
 abbrev P : tie.In-loop Inv-loop μ-loop → ℕ
-P c = c .before .before .before .before .args .i * c .before .before .before .before .args .fb .order + c .before .loop .j
+P c = c .before .before .before .before .before .args .i * c .before .before .before .before .before .args .fb .order + c .before .loop .j
 
 room : (c : tie.In-loop Inv-loop μ-loop) → P c < 256
-room c = let s = c .before .before .before .before in in-block (c .before .loop .j) (s .pre .0 .order) (s .pre .1 .order) (s .pre .2) (c .loop-test .taken)
+room c = let s = c .before .before .before .before .before in in-block (c .before .loop .j) (s .pre .0 .order) (s .pre .1 .order) (s .pre .2) (c .loop-test .taken)
 
 mul-e : tie.Need-mul-e Inv-loop μ-loop
 mul-e c = let h = room c in omega arith
@@ -44,7 +44,7 @@ add-e : tie.Need-add-e Inv-loop μ-loop
 add-e c = let h = room c in omega arith
 
 sign-at-requires : tie.Need-sign-at-requires Inv-loop μ-loop
-sign-at-requires c κs = let s = c .before .before .before .before in (s .pre .0, s .pre .2)
+sign-at-requires c κs = let s = c .before .before .before .before .before in (s .pre .0, s .pre .2)
 
 mul-out-at : tie.Need-mul-out-at Inv-loop μ-loop
 mul-out-at c = let h = room (c .before .before) in omega arith
@@ -53,26 +53,26 @@ element-copy-out-out-at : tie.Need-element-copy-out-out-at Inv-loop μ-loop
 element-copy-out-out-at c = let h = room (c .before .before) in omega arith
 
 abbrev F : tie.In-loop Inv-loop μ-loop → ℤ
-F c = let s = c .before .before .before .before in outOf (s .args .col .now) (s .args .fa) (s .args .row .now) (s .args .fb) (s .args .x .now) (P c)
+F c = let s = c .before .before .before .before .before in outOf (s .args .col .now) (s .args .fa) (s .args .row .now) (s .args .fb) (s .args .x .now) (P c)
 
-sign : (c : tie.After-sign-at Inv-loop μ-loop) → toZ w32 (ofZ w32 (c .sign-at .result)) ≡ signAt (c .before .before .before .before .before .args .col .now) (c .before .before .before .before .before .args .fa) (c .before .before .before .before .before .args .i)
+sign : (c : tie.After-sign-at Inv-loop μ-loop) → toZ w32 (ofZ w32 (c .sign-at .result)) ≡ signAt (c .before .before .before .before .before .before .args .col .now) (c .before .before .before .before .before .before .args .fa) (c .before .before .before .before .before .before .args .i)
 sign c = back w32 _ (c .sign-at .ok) ∙ c .sign-at .ensures
 
 -- the element, which this row has not written yet
-own : (c : tie.In-loop Inv-loop μ-loop) → toZ w32 (ofZ w32 (at (c .before .loop .x) (P c))) ≡ at (c .before .before .before .before .args .x .now) (P c)
-own c = let l = c .before .loop in let s = c .before .before .before .before in reads w32 (l .inv .2 .small (P c)) tt ∙ row-ahead _ (s .args .fb .order) (s .args .i) (l .j) (s .args .x .now) (l .inv .1)
+own : (c : tie.In-loop Inv-loop μ-loop) → toZ w32 (ofZ w32 (at (c .before .loop .x) (P c))) ≡ at (c .before .before .before .before .before .args .x .now) (P c)
+own c = let l = c .before .loop in let s = c .before .before .before .before .before in reads w32 (l .inv .2 .small (P c)) tt ∙ row-ahead _ (s .args .fb .order) (s .args .i) (l .j) (s .args .x .now) (l .inv .1)
 
 out-at-requires : tie.Need-out-at-requires Inv-loop μ-loop
 out-at-requires c κs =
     let l = c .before .before .before in
-    let s = l .before .before .before .before in
+    let s = l .before .before .before .before .before in
     rw (sign (c .before .before), l .before .before .sums-at .ensures, own l)
     (s .pre .1, l .loop-test .taken, s .pre .0 .sign (s .args .i) (s .pre .2), sums-small (s .pre .0) (s .args .i) (s .pre .2) (s .args .fb .order) (s .pre .3), s .pre .3 .small (P l))
 
 value : (c : tie.After-out-at Inv-loop μ-loop) → toZ w64 (ofZ w64 (c .out-at .result)) ≡ F (c .before .before .before .before)
 value c =
     let l = c .before .before .before .before in
-    let s = l .before .before .before .before in
+    let s = l .before .before .before .before .before in
     back w64 _ (c .out-at .ok) ∙ c .out-at .ensures
     ∙ rw (sign (c .before .before .before), l .before .before .sums-at .ensures, own l)
     (sym (out-here (s .args .col .now) (s .args .fa) (s .args .row .now) (s .args .fb) (s .args .x .now) (s .args .i) (l .before .loop .j) (l .loop-test .taken)))
@@ -99,8 +99,8 @@ held c = test-yes bound (value (c .before .before)) (c .before .is-within .ensur
 cast-x : tie.Need-cast-x Inv-loop μ-loop
 cast-x c = rw (value (c .before .before)) (fits (held c) tt)
 
-mul-t15 : tie.Need-mul-t15 Inv-loop μ-loop
-mul-t15 c = let h = room (c .before .before .before .before .before .before) in omega arith
+mul-t16 : tie.Need-mul-t16 Inv-loop μ-loop
+mul-t16 c = let h = room (c .before .before .before .before .before .before) in omega arith
 
 element-set-from-x : tie.Need-element-set-from-x Inv-loop μ-loop
 element-set-from-x c = let h = room (c .before .before .before .before .before .before) in omega arith
@@ -122,7 +122,7 @@ loop-again c =
 
 returns-2 : tie.Need-returns-2 Inv-loop μ-loop
 returns-2 c =
-    let s = c .before .before .before .before in
+    let s = c .before .before .before .before .before in
     let l = c .before .loop in
     let e : l .j ≡ s .args .fb .order = omega arith in
     record {
@@ -148,7 +148,7 @@ weigh-row-spec =
     is-within-requires
     returns
     cast-x
-    mul-t15
+    mul-t16
     element-set-from-x
     add-j
     loop-less

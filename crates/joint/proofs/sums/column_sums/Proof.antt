@@ -1,5 +1,5 @@
 -- The first k sums stand in the array, the rest of it is 0.
-use mathlib.Core.Path.{_≡_, refl, _∙_}
+use mathlib.Core.Path.{_≡_, _∙_}
 use Prim.Native.Nat.{_-_, _≤_}
 use native.Mathlib.Numerals.{add-one}
 use native.Mathlib.Omega.{arith}
@@ -22,16 +22,16 @@ abbrev μ-loop : tie.MeasureT-loop
 
 loop-holds : tie.Need-loop-holds Inv-loop μ-loop
 unfolding fill
-loop-holds c = (omega arith, refl)
+loop-holds c = (omega arith, c .pre .3)
 
 column-sum-requires : tie.Need-column-sum-requires Inv-loop μ-loop
 column-sum-requires c κs = let s = c .before .before in rw (toZ-ofZ (s .fits .own)) (s .pre .0, s .pre .1, c .loop-test .taken, s .pre .2)
 
-mul-v : tie.Need-mul-v Inv-loop μ-loop
-mul-v c = omega arith
+mul-t11 : tie.Need-mul-t11 Inv-loop μ-loop
+mul-t11 c = omega arith
 
-array-set-from-v : tie.Need-array-set-from-v Inv-loop μ-loop
-array-set-from-v c = omega arith
+element-set-from-v : tie.Need-element-set-from-v Inv-loop μ-loop
+element-set-from-v c = omega arith
 
 add-k : tie.Need-add-k Inv-loop μ-loop
 add-k c = omega arith
@@ -59,8 +59,8 @@ column-sums-spec =
     μ-loop
     loop-holds
     column-sum-requires
-    mul-v
-    array-set-from-v
+    mul-t11
+    element-set-from-v
     add-k
     loop-less
     loop-again
