@@ -137,10 +137,12 @@ static int64_t joint_sum(const struct spot *b, size_t j, const int64_t *v)
 	return sum;
 }
 
-static bool apply(const struct spot *a, const struct spot *b, const int32_t *x, int32_t *y)
+// In place: the row that is undone last comes first, so that no row looks at one written before it.
+static bool apply(const struct spot *a, const struct spot *b, int32_t *x)
 {
 	size_t n = b->n;
-	for (size_t i = 0; i < a->n; i++) {
+	for (size_t t = a->n; t-- > 0;) {
+		size_t i = place_of(a, t);
 		int64_t off[ORDER], v[ORDER]; // without the diagonal of A, and with it
 		column_sums(a, i, x, n, off);
 		for (size_t k = 0; k < n; k++)
@@ -150,7 +152,7 @@ static bool apply(const struct spot *a, const struct spot *b, const int32_t *x, 
 			int64_t z = (int64_t)(a->signs[i] * b->signs[j]) * x[i * n + j] + ((s + 8388608) >> 24);
 			if (!is_within(z))
 				return false;
-			y[i * n + j] = (int32_t)z;
+			x[i * n + j] = (int32_t)z;
 		}
 	}
 	return true;
@@ -205,16 +207,16 @@ static int64_t double_sum(const struct matrix *a, size_t n1, const struct matrix
 	return (s + 8388608) >> 24;
 }
 
-static bool plain_apply(const struct spot *f, const struct spot *g, const int32_t *x, int32_t *y)
+static bool plain_apply(const struct spot *f, const struct spot *g, int32_t *x)
 {
 	struct matrix a = matrix_of(f), b = matrix_of(g);
-	for (size_t i = 0; i < f->n; i++)
-		for (size_t j = 0; j < g->n; j++) {
-			size_t e = i * g->n + j;
+	for (size_t t = f->n; t-- > 0;)
+		for (size_t u = g->n; u-- > 0;) {
+			size_t i = place_of(f, t), j = place_of(g, u), e = i * g->n + j;
 			int64_t z = (int64_t)(f->signs[i] * g->signs[j]) * x[e] + double_sum(&a, f->n, &b, g->n, i, j, x);
 			if (!is_within(z))
 				return false;
-			y[e] = (int32_t)z;
+			x[e] = (int32_t)z;
 		}
 	return true;
 }
@@ -235,20 +237,25 @@ static bool plain_undo(const struct spot *f, const struct spot *g, int32_t *x)
 
 // ---- permutations and runs
 
-static void permute(const struct spot *a, const struct spot *b, const int32_t *x, int32_t *y)
+// A line of a block, n numbers s apart, by a permutation: through sixteen numbers aside.
+static void move_line(const struct spot *f, bool back, int32_t *x, size_t s)
 {
-	for (size_t i = 0; i < a->n; i++)
-		for (size_t j = 0; j < b->n; j++)
-			y[i * b->n + j] = x[(size_t)a->signs[i] * b->n + (size_t)b->signs[j]];
+	int32_t old[ORDER];
+	for (size_t m = 0; m < f->n; m++)
+		old[m] = x[m * s];
+	for (size_t m = 0; m < f->n; m++) {
+		size_t p = (size_t)f->signs[m];
+		x[(back ? p : m) * s] = old[back ? m : p];
+	}
 }
 
-static void unpermute(const struct spot *a, const struct spot *b, int32_t *x)
+// The numbers of each row, then those of each column.
+static void move_pair(const struct spot *a, const struct spot *b, bool back, int32_t *x)
 {
-	int32_t y[ORDER * ORDER];
-	memcpy(y, x, a->n * b->n * sizeof *x);
 	for (size_t i = 0; i < a->n; i++)
-		for (size_t j = 0; j < b->n; j++)
-			x[(size_t)a->signs[i] * b->n + (size_t)b->signs[j]] = y[i * b->n + j];
+		move_line(b, back, x + i * b->n, 1);
+	for (size_t j = 0; j < b->n; j++)
+		move_line(a, back, x + j, b->n);
 }
 
 // One block of a checked pair.
@@ -257,24 +264,22 @@ static inline struct answer forward_block(bool plain, const int32_t *col, const 
 	size_t many = (size_t)col[1], size = (size_t)col[0] * (size_t)row[0];
 	if (!is_inside(x, size))
 		return refused(11, 0, 0);
-	int32_t v[2][ORDER * ORDER]; // this stage and the next, by turns
-	memcpy(v[0], x, size * sizeof *x);
+	int32_t v[ORDER * ORDER];
+	memcpy(v, x, size * sizeof *x);
 	const int32_t *f = col + 2, *g = row + 2;
 	for (size_t t = 0; t < many; t++) {
 		struct spot a = spot_at(f, (size_t)col[0]), b = spot_at(g, (size_t)row[0]);
-		const int32_t *from = v[t % 2];
-		int32_t *to = v[1 - t % 2];
 		bool ok = true;
 		if (a.kind == 1)
-			permute(&a, &b, from, to);
+			move_pair(&a, &b, false, v);
 		else
-			ok = plain ? plain_apply(&a, &b, from, to) : apply(&a, &b, from, to);
+			ok = plain ? plain_apply(&a, &b, v) : apply(&a, &b, v);
 		if (!ok)
 			return refused(11, 0, t + 1);
 		f += numbers(f, a.n);
 		g += numbers(g, b.n);
 	}
-	memcpy(y, v[many % 2], size * sizeof *y);
+	memcpy(y, v, size * sizeof *y);
 	return refused(0, 0, 0);
 }
 
@@ -299,7 +304,7 @@ static inline struct answer inverse_block(bool plain, const int32_t *col, const 
 		struct spot a = spot_before(col, many - t), b = spot_before(row, many - t);
 		bool ok = true;
 		if (a.kind == 1)
-			unpermute(&a, &b, v);
+			move_pair(&a, &b, true, v);
 		else
 			ok = plain ? plain_undo(&a, &b, v) : undo(&a, &b, v);
 		if (!ok)
