@@ -10,9 +10,8 @@ use lib.IntN.{ℤ, pos}
 use lib.ListN.{length, set, replicate, length-set}
 use Rattle.rules.specs.Numbers.{mostOrder, at}
 use Rattle.rules.specs.Stages.{fill, putBack}
-use Rattle.rules.specs.Laws.Good.{Permutes}
+use Rattle.rules.specs.Laws.Good.{Permutes, same-permutes}
 use Rattle.rules.specs.Laws.Lists.{fill-at, set-at, set-other}
-use Rattle.factor.specs.Turns.{same-permutes}
 
 -- place q m is set to g m, for each m below n
 unfoldable pub spread : ℕ → (ℕ → ℕ) → (ℕ → ℤ) → List ℤ → List ℤ

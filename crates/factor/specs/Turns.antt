@@ -11,13 +11,10 @@ use lib.IntN.{pos}
 use Rattle.rules.specs.declared.Kind.{Kind}
 use Rattle.rules.specs.declared.Kind.the-variants.{Permutation, Lower, Upper, Single}
 use Rattle.rules.specs.Factors.{Factor, hasEntry, matrix}
-use Rattle.rules.specs.Laws.Good.{Permutes}
+use Rattle.rules.specs.Laws.Good.{Permutes, same-permutes}
 use Rattle.factor.specs.declared.Row.{Row}
 use Rattle.factor.specs.declared.Spot.{Spot}
 use Rattle.factor.specs.Spots.{placeOf, rowBy, rowOf}
-
-pub same-permutes : (n : ℕ) → Permutes n (λ t. t)
-same-permutes n = record { from = λ e. e; below = λ e l. l; from-below = λ e l. l; to-from = λ e l. refl; from-to = λ e l. refl }
 
 -- round from the row after r: places below n - 1 - r are those after r, the others those up to r
 module _ (n r : ℕ) (b : r < n) where

@@ -1,7 +1,6 @@
 -- ONE ELEMENT OF A PAIR OF FACTORS as the code makes it: applied and undone; and how large it becomes.
 -- d is the sign of the element's row, v the sums of that row over the columns, x the element's number.
 use mathlib.Core.List.{List}
-use mathlib.Core.Logic.{inl, inr}
 use Prim.Native.Nat.{ℕ, _+_, _*_, _/_, _%_, _<_}
 use native.Mathlib.Omega.{arith}
 use lib.IntN.{ℤ, pos, _+ℤ_, _-ℤ_, _*ℤ_}
@@ -51,12 +50,6 @@ module _ (c : List ℤ) (fa : Spot) (r : List ℤ) (fb : Spot) (x : List ℤ) (e
   backOf = backAt r fb (e % fb .order) (signAt c fa rowNo) (sumsAt c fa rowNo x (fb .order)) (at x e)
 
 -- ---- sizes
-pub signs-times : {d e : ℤ} → Sign d → Sign e → Sign (d *ℤ e)
-signs-times (inl i) (inl j) = inl (rw (i, j))
-signs-times (inl i) (inr j) = inr (rw (i, j))
-signs-times (inr i) (inl j) = inr (rw (i, j))
-signs-times (inr i) (inr j) = inl (rw (i, j))
-
 pub own-small : {d : ℤ} → Sign d → Within mostEntry (ownOf d)
 own-small g = within-le {A = unit * 1} (omega arith) (within-* (within-pos unit) (sign-within g))
 

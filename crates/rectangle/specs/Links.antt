@@ -36,7 +36,7 @@ use Rattle.joint.specs.Sizes.{sizeSums, sizeSum, wholeRow, allowAt, allowOf, ne
 use Rattle.rectangle.specs.Multiples.{joint-whole}
 use Rattle.rectangle.specs.Moves.{sourceOf}
 use Rattle.rectangle.specs.Weights.{own-there, across-row, size-there, sizes-row-is}
-use Rattle.rectangle.specs.Order.{pair-permutes, pairPlace, earlier}
+use Rattle.rectangle.specs.Order.{pairPlace, pairs-permute, earlier}
 
 -- ---- element by element
 module _ (c r : List ℤ) (n1 n2 a b : ℕ) where
@@ -151,7 +151,7 @@ module _ (c r : List ℤ) (n1 n2 a b : ℕ) where
 
       permutes : Permutes (n1 * n2) (pairPlace fa fb)
       unfolding spotAt spotBy
-      permutes = pair-permutes n1 n2 (places-permute kind n1 (fa .row) low) (places-permute (kindOf (count r b)) n2 (fb .row) low′)
+      permutes = pairs-permute fa fb low low′
 
       later-row : (s : List ℤ) (n i : ℕ) → spotAt s n i .row < n → (t u : ℕ) → t < u → u < n →
           matrix (factorAt s n i) (placeOf (kindOf (count s i)) n (spotAt s n i .row) t) (placeOf (kindOf (count s i)) n (spotAt s n i .row) u) ≡ pos 0

@@ -13,12 +13,11 @@ use lib.ListN.{length}
 use Rattle.rules.specs.Numbers.{at}
 use Rattle.rules.specs.Laws.Good.{Permutes}
 use Rattle.rules.specs.Laws.Lists.{same-list}
-use Rattle.rules.specs.Laws.Rect.{row-below, col-below, place-below, row-of, col-of}
+use Rattle.rules.specs.Laws.Rect.{row-below, col-below, place-below, row-of, col-of, pair-permutes}
 use Rattle.factor.specs.declared.Spot.{Spot}
 use Rattle.factor.specs.Lies.{Moves, placeAt}
 use Rattle.factor.specs.Walks.{apart}
 use Rattle.factor.specs.Spreads.{toOf, fromOf, spread, movedBy, movedLine, length-spread, spread-other, spread-at, moved-spread, to-permutes, from-permutes}
-use Rattle.rectangle.specs.Order.{pair-permutes}
 
 -- where element e comes from: "Y(i,j) = X(p(i), q(j))"
 unfoldable pub sourceOf : List ℤ → Spot → List ℤ → Spot → ℕ → ℕ

@@ -10,34 +10,20 @@ use native.Mathlib.Omega.{arith}
 use lib.IntN.{ℤ}
 use Rattle.rules.specs.Numbers.{at}
 use Rattle.rules.specs.Shapes.{order}
-use Rattle.rules.specs.Laws.Good.{Permutes}
-use Rattle.rules.specs.Laws.Rect.{row-below, col-below, place-below, row-of, col-of}
+use Rattle.rules.specs.Laws.Good.{Permutes, same-permutes}
+use Rattle.rules.specs.Laws.Rect.{row-below, col-below, row-of, col-of, pair-permutes}
 use Rattle.factor.specs.declared.Spot.{Spot}
 use Rattle.factor.specs.Spots.{placeOf, rowOf}
-use Rattle.factor.specs.Turns.{same-permutes, places-reverse, Unseen, row-blind}
+use Rattle.factor.specs.Turns.{places-permute, places-reverse, Unseen, row-blind}
 use Rattle.factor.specs.Walks.{walk, walk-other}
 use Rattle.joint.specs.Sums.{SameRows}
 
-pub pair-permutes : (n1 n2 : ℕ) {f g : ℕ → ℕ} → Permutes n1 f → Permutes n2 g → Permutes (n1 * n2) (λ e. f (e / n2) * n2 + g (e % n2))
-pair-permutes n1 n2 {f} {g} p q = record {
-  from = λ e. p .from (e / n2) * n2 + q .from (e % n2);
-  below = λ e l. place-below n1 n2 _ _ (p .below _ (row e l)) (q .below _ (col e l));
-  from-below = λ e l. place-below n1 n2 _ _ (p .from-below _ (row e l)) (q .from-below _ (col e l));
-  to-from = λ e l. back e f g _ _ (q .from-below _ (col e l)) (p .to-from _ (row e l)) (q .to-from _ (col e l));
-  from-to = λ e l. back e (p .from) (q .from) _ _ (q .below _ (col e l)) (p .from-to _ (row e l)) (q .from-to _ (col e l));
-}
-  where
-    row : (e : ℕ) → e < n1 * n2 → e / n2 < n1
-    row = row-below n1 n2
-
-    col : (e : ℕ) → e < n1 * n2 → e % n2 < n2
-    col = col-below n1 n2
-
-    back : (e : ℕ) (f g : ℕ → ℕ) (i j : ℕ) → j < n2 → f i ≡ e / n2 → g j ≡ e % n2 → f ((i * n2 + j) / n2) * n2 + g ((i * n2 + j) % n2) ≡ e
-    back e f g i j b h k = rw (row-of n1 n2 i j b, col-of n1 n2 i j b, h, k) (NatL.div-add-mod' e n2)
-
 abbrev pub pairPlace : Spot → Spot → ℕ → ℕ
 pairPlace f g t = placeOf (f .kind) (f .order) (f .row) (t / g .order) * g .order + placeOf (g .kind) (g .order) (g .row) (t % g .order)
+
+pub pairs-permute : (f g : Spot) → f .row < f .order → g .row < g .order → Permutes (f .order * g .order) (pairPlace f g)
+pairs-permute f g b c =
+    pair-permutes (f .order) (g .order) (places-permute (f .kind) (f .order) (f .row) b) (places-permute (g .kind) (g .order) (g .row) c)
 
 pub pair-row : (f g : Spot) (i j : ℕ) → j < g .order →
     pairPlace f g (i * g .order + j) ≡ placeOf (f .kind) (f .order) (f .row) i * g .order + placeOf (g .kind) (g .order) (g .row) j

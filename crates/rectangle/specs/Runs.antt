@@ -8,7 +8,7 @@ use lib.IntN.{ℤ}
 use Rattle.rules.specs.Numbers.{count}
 use Rattle.rules.specs.Sheets.{kindOf}
 use Rattle.rules.specs.Factors.{factorAt, factorsFrom, factors}
-use Rattle.rules.specs.Stages.{Stage, Ran}
+use Rattle.rules.specs.Stages.{Stage}
 use Rattle.rules.specs.Shapes.{jointStage, jointStages}
 use Rattle.rules.specs.Answers.{further, start, matching, pairChecked}
 use Rattle.rules.specs.Laws.Cuts.{joints-append}

@@ -61,6 +61,12 @@ abs-mul (negsuc m) (negsuc n) = refl
 abbrev pub Sign : ℤ → Type 0
 Sign d = (d ≡ pos 1) ⊎ (d ≡ negsuc 0)
 
+pub signs-times : {d e : ℤ} → Sign d → Sign e → Sign (d *ℤ e)
+signs-times (inl i) (inl j) = inl (rw (i, j))
+signs-times (inl i) (inr j) = inr (rw (i, j))
+signs-times (inr i) (inl j) = inr (rw (i, j))
+signs-times (inr i) (inr j) = inl (rw (i, j))
+
 pub sign-sign : (d z : ℤ) → Sign d → d *ℤ (d *ℤ z) ≡ z
 sign-sign d z (inl e) = rw e (simp lia (omega arith))
 sign-sign d z (inr e) = rw e (simp lia (omega arith))

@@ -2,7 +2,7 @@
 use mathlib.Core.Bool.{Bool, true, false, cond}
 use mathlib.Core.List.{List, [], _∷_}
 use mathlib.Core.Logic.{_≢_}
-use mathlib.Core.Path.{_≡_}
+use mathlib.Core.Path.{_≡_, refl}
 use Prim.Native.Nat.{ℕ, _*_, _≤_, _<_}
 use lib.Dec.{eqb}
 use lib.IntN.{ℤ, pos, natAbs, _-ℤ_, _*ℤ_}
@@ -20,6 +20,9 @@ pub record Permutes (N : ℕ) (p : ℕ → ℕ) : Type 0 where
   pub from-below : (e : ℕ) → e < N → from e < N
   pub to-from : (e : ℕ) → e < N → p (from e) ≡ e
   pub from-to : (e : ℕ) → e < N → from (p e) ≡ e
+
+pub same-permutes : (n : ℕ) → Permutes n (λ e. e)
+same-permutes n = record { from = λ e. e; below = λ e l. l; from-below = λ e l. l; to-from = λ e l. refl; from-to = λ e l. refl }
 
 -- whether e stands in the list
 unfoldable pub has : ℕ → List ℕ → Bool

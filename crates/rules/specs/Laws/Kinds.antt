@@ -8,8 +8,8 @@ use native.Mathlib.Nat as NatL
 use native.Mathlib.Decide.{ℕ-discrete, decLe}
 use native.Mathlib.Omega.{arith}
 use borrow.Author.Tests.{eq-eqb, ne-eqb, le-ltb}
-use lib.IntN.{ℤ, pos, _*ℤ_, zero-*ℤ, *ℤ-zero}
-use Rattle.whole.specs.Laws.{Sign}
+use lib.IntN.{pos, _*ℤ_, zero-*ℤ, *ℤ-zero}
+use Rattle.whole.specs.Laws.{Sign, signs-times}
 use Rattle.rules.specs.declared.Kind.{Kind}
 use Rattle.rules.specs.declared.Kind.the-variants.{Permutation, Lower, Upper, Single}
 use Rattle.rules.specs.Numbers.{unit, unit²}
@@ -18,7 +18,7 @@ use Rattle.rules.specs.Stages.{Stage}
 use Rattle.rules.specs.Shapes.{turn, order, inRow, stageOf, lineStage, lineStages, jointSource, jointSign, jointWeight, jointShared, jointStage, jointStages}
 use Rattle.rules.specs.Laws.Good.{Permutes, Good, moves, weighs, AllGood, Sound, AllSound, AllMatch}
 use Rattle.rules.specs.Laws.Order.{Ranked, turns-recover}
-use Rattle.rules.specs.Laws.Rect.{row-below, col-below, place-below, row-of, col-of, same-place}
+use Rattle.rules.specs.Laws.Rect.{row-below, col-below, same-place, pair-permutes}
 
 -- a stage by its kind: a move of kind 1, a weighing of every other kind
 pub by-kind : (P : Stage → Type 0) (kind : Kind) (a b : Stage) →
@@ -107,31 +107,10 @@ lines-good AllSound.none = AllGood.none
 lines-good {n} (AllSound.more {f} {fs} s t) = AllGood.more (line-good n f s) (lines-good t)
 
 -- ---- a rectangle
-signs-product : (x y : ℤ) → Sign x → Sign y → Sign (x *ℤ y)
-signs-product x y (inl i) (inl j) = inl (rw (i, j))
-signs-product x y (inl i) (inr j) = inr (rw (i, j))
-signs-product x y (inr i) (inl j) = inr (rw (i, j))
-signs-product x y (inr i) (inr j) = inl (rw (i, j))
-
 module _ (n1 n2 : ℕ) (A B : Factor) where
   joint-permutes : Permutes n1 (A .place) → Permutes n2 (B .place) → Permutes (n1 * n2) (jointSource n1 n2 A B)
   unfolding jointSource
-  joint-permutes p q = record {
-    from = λ e. p .from (e / n2) * n2 + q .from (e % n2);
-    below = λ e l. place-below n1 n2 _ _ (p .below _ (row e l)) (q .below _ (col e l));
-    from-below = λ e l. place-below n1 n2 _ _ (p .from-below _ (row e l)) (q .from-below _ (col e l));
-    to-from = λ e l. back e (A .place) (B .place) _ _ (q .from-below _ (col e l)) (p .to-from _ (row e l)) (q .to-from _ (col e l));
-    from-to = λ e l. back e (p .from) (q .from) _ _ (q .below _ (col e l)) (p .from-to _ (row e l)) (q .from-to _ (col e l));
-  }
-    where
-      row : (e : ℕ) → e < n1 * n2 → e / n2 < n1
-      row = row-below n1 n2
-
-      col : (e : ℕ) → e < n1 * n2 → e % n2 < n2
-      col = col-below n1 n2
-
-      back : (e : ℕ) (f g : ℕ → ℕ) (i j : ℕ) → j < n2 → f i ≡ e / n2 → g j ≡ e % n2 → f ((i * n2 + j) / n2) * n2 + g ((i * n2 + j) % n2) ≡ e
-      back e f g i j b h k = rw (row-of n1 n2 i j b, col-of n1 n2 i j b, h, k) (NatL.div-add-mod' e n2)
+  joint-permutes = pair-permutes n1 n2
 
   pub shared-most : (e : ℕ) → jointShared n1 n2 A B e < 4
   unfolding jointShared
@@ -183,7 +162,7 @@ module _ (n1 n2 : ℕ) (A B : Factor) where
 
     pub joint-signs : Sound n1 A → Sound n2 B → A .kind ≢ Permutation → (e : ℕ) → e < n1 * n2 → Sign (jointSign n1 n2 A B e)
     unfolding jointSign
-    joint-signs s t q e l = signs-product _ _ (s .signs q _ (row-below n1 n2 e l)) (t .signs (λ z. q (match ∙ z)) _ (col-below n1 n2 e l))
+    joint-signs s t q e l = signs-times (s .signs q _ (row-below n1 n2 e l)) (t .signs (λ z. q (match ∙ z)) _ (col-below n1 n2 e l))
 
     pub joint-good : Sound n1 A → Sound n2 B → Good (n1 * n2) (jointStage n1 n2 A B)
     unfolding jointStage order

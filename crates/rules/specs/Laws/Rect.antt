@@ -18,6 +18,7 @@ use Rattle.rules.specs.Numbers.{unit, unit², at}
 use Rattle.rules.specs.Factors.{Factor, matrix}
 use Rattle.rules.specs.Stages.{weigh, off, weighed, exact}
 use Rattle.rules.specs.Shapes.{jointSign, jointWeight}
+use Rattle.rules.specs.Laws.Good.{Permutes}
 use Rattle.rules.specs.Laws.Lists.{fill-at}
 
 module _ (r c : ℕ) where
@@ -45,6 +46,25 @@ module _ (r c : ℕ) where
 
   pub same-place : (e k : ℕ) → e / c ≡ k / c → e % c ≡ k % c → e ≡ k
   same-place e k i j = sym (NatL.div-add-mod' e c) ∙ ap₂ (λ (m n : ℕ). m * c + n) i j ∙ NatL.div-add-mod' k c
+
+-- ---- rows and columns, each by a permutation
+pub pair-permutes : (n1 n2 : ℕ) {f g : ℕ → ℕ} → Permutes n1 f → Permutes n2 g → Permutes (n1 * n2) (λ e. f (e / n2) * n2 + g (e % n2))
+pair-permutes n1 n2 {f} {g} p q = record {
+  from = λ e. p .from (e / n2) * n2 + q .from (e % n2);
+  below = λ e l. place-below n1 n2 _ _ (p .below _ (row e l)) (q .below _ (col e l));
+  from-below = λ e l. place-below n1 n2 _ _ (p .from-below _ (row e l)) (q .from-below _ (col e l));
+  to-from = λ e l. back e f g _ _ (q .from-below _ (col e l)) (p .to-from _ (row e l)) (q .to-from _ (col e l));
+  from-to = λ e l. back e (p .from) (q .from) _ _ (q .below _ (col e l)) (p .from-to _ (row e l)) (q .from-to _ (col e l));
+}
+  where
+    row : (e : ℕ) → e < n1 * n2 → e / n2 < n1
+    row = row-below n1 n2
+
+    col : (e : ℕ) → e < n1 * n2 → e % n2 < n2
+    col = col-below n1 n2
+
+    back : (e : ℕ) (f g : ℕ → ℕ) (i j : ℕ) → j < n2 → f i ≡ e / n2 → g j ≡ e % n2 → f ((i * n2 + j) / n2) * n2 + g ((i * n2 + j) % n2) ≡ e
+    back e f g i j b h k = rw (row-of n1 n2 i j b, col-of n1 n2 i j b, h, k) (NatL.div-add-mod' e n2)
 
 -- ---- sums
 pub sum-rows : (r c : ℕ) (f : ℕ → ℤ) → sum (r * c) f ≡ sum r (λ l. sum c (λ k. f (l * c + k)))

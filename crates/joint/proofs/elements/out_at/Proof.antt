@@ -5,8 +5,8 @@ use mir.Facts.{toZ-ofZ}
 use mir.Syntax.{w32, w64}
 use mir.Val.{toZ, ofZ}
 use Rattle.whole.specs.Machine.{fits, back, within-+, sign-within, within-sign}
-use Rattle.whole.specs.Laws.{Sign}
-use Rattle.joint.specs.Elements.{signAt, nudge, outAt, nudge-small, signs-times}
+use Rattle.whole.specs.Laws.{Sign, signs-times}
+use Rattle.joint.specs.Elements.{signAt, nudge, outAt, nudge-small}
 use borrow.Author.Needs.{needs}
 use Rattle.joint.proofs.elements.out_at.Statement.{statement}
 use Rattle.joint.proofs.elements.out_at.Tie as tie

@@ -1,7 +1,7 @@
 -- Stage 0 (`forward-out`), then the run of the block in its room (`forward-ends`).
 use borrow.Author.Needs.{needs}
 use borrow.Author.Tests.{not-true, not-false}
-use mathlib.Core.Path.{_≡_, sym, _∙_}
+use mathlib.Core.Path.{sym, _∙_}
 use native.Mathlib.Omega.{arith}
 use Rattle.rules.specs.Numbers.{bound}
 use Rattle.rules.specs.Stages.{runForward}

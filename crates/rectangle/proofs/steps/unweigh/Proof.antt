@@ -11,11 +11,10 @@ use Rattle.rules.specs.Numbers.{bound}
 use Rattle.factor.specs.Reach.{Numbers}
 use Rattle.factor.specs.Steps.{step-stops, step-goes}
 use Rattle.factor.specs.Walks.{walk, length-walk}
-use Rattle.rules.specs.Laws.Good.{Permutes}
 use Rattle.factor.specs.Spots.{placeOf}
 use Rattle.factor.specs.Turns.{places-permute}
 use Rattle.joint.specs.Elements.{backOf}
-use Rattle.rectangle.specs.Order.{pairPlace, pair-permutes, pair-row}
+use Rattle.rectangle.specs.Order.{pairPlace, pairs-permute, pair-row}
 use Rattle.joint.specs.Went.{inRow, row-stuck, row-on, no-row}
 use Rattle.rectangle.proofs.steps.unweigh.Statement.{statement}
 use Rattle.rectangle.proofs.steps.unweigh.Tie as tie
@@ -37,12 +36,6 @@ W s m = walk (backOf (s .args .col .now) (s .args .fa) (s .args .row .now) (s .a
 
 abbrev N : tie.Start Inv-loop μ-loop → ℕ
 N s = s .args .fa .order * s .args .fb .order
-
-permutes : (s : tie.Start Inv-loop μ-loop) → Permutes (N s) (pairPlace (s .args .fa) (s .args .fb))
-permutes s =
-    pair-permutes (s .args .fa .order) (s .args .fb .order)
-    (places-permute (s .args .fa .kind) (s .args .fa .order) (s .args .fa .row) (s .pre .2))
-    (places-permute (s .args .fb .kind) (s .args .fb .order) (s .args .fb .row) (s .pre .3))
 
 room : (s : tie.Start Inv-loop μ-loop) → N s ≤ length (s .args .x .now)
 room s = omega (arith, mul-le-mul (s .pre .0 .order) (s .pre .1 .order), s .pre .5)
@@ -77,7 +70,7 @@ returns c =
     let s = p .before .before .before in
     let l = p .before .before .loop in (
       step-stops
-          (row-stuck (permutes s) bound (backOf (s .args .col .now) (s .args .fa) (s .args .row .now) (s .args .fb)) (s .args .x .now) (room s) (s .args .fa .order) (s .args .fb .order) (l .s) (Q p) refl
+          (row-stuck (pairs-permute (s .args .fa) (s .args .fb) (s .pre .2) (s .pre .3)) bound (backOf (s .args .col .now) (s .args .fa) (s .args .row .now) (s .args .fb)) (s .args .x .now) (room s) (s .args .fa .order) (s .args .fb .order) (l .s) (Q p) refl
           (p .before .loop-test .taken) (turns p) (l .inv .1) (c .before .unweigh-row .ensures .stuck (not-true _ (c .if1 .taken)))),
       c .before .unweigh-row .ensures .keeps ∙ long (p .before .before),
     )
