@@ -5,6 +5,7 @@ mod reading;
 mod table;
 mod writing;
 
+pub use number::below;
 pub use number::read_number;
 pub use number::value_of;
 pub use reading::End;

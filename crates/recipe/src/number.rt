@@ -1,8 +1,11 @@
 // One number and its bytes: at most three groups of seven bits, low group first.
+ghost use mathlib.Core.Bool.{true};
 ghost use mathlib.Core.Path.{_≡_};
-ghost use Prim.Native.Nat.{_+_, _≤_, _<_};
+ghost use Prim.Native.Nat.{_+_, _-_, _≤_, _<_};
+ghost use lib.IntN.{pos, natAbs};
 ghost use lib.ListN.{length, drop};
 ghost use lib.Seq.{sets};
+ghost use lib.Signed.{ltZ};
 ghost use Rattle.rules.specs.Recipes.{code, value, spell, none, ahead, group, number};
 ghost use Rattle.recipe.specs.Codes.{codes};
 ghost use Rattle.recipe.specs.Groups.{Small};
@@ -73,12 +76,20 @@ pub fn value_of(u: u32) -> i32
     -h - 1
 }
 
-// The code of a number. -(v + 1) fits where -v may not.
+// How far below -1 a number below 0 is: -(v + 1) fits where -v may not.
+pub fn below(v: i32) -> u32
+    requires { ⌜ ltZ v (pos 0) ≡ true ⌝ }
+    ensures { λ r. ⌜ r ≡ natAbs v - 1 ⌝ }
+{
+    -(v + 1) as u32
+}
+
+// The code of a number.
 pub fn code_of(v: i32) -> u32
     ensures { λ r. ⌜ r ≡ code v ⌝ }
 {
     if v < 0 {
-        return 2 * (-(v + 1) as u32) + 1;
+        return 2 * below(v) + 1;
     }
     2 * (v as u32)
 }

@@ -6,6 +6,7 @@ ghost use lib.IntN.{pos, natAbs};
 ghost use lib.ListN.{length};
 ghost use Rattle.session.specs.Program.{power, digitAt, digits, decimal, spaced, lineOf, refusal, replied};
 ghost use Rattle.session.specs.Writing.{Wrote};
+use recipe::below;
 use rules::Answer;
 
 const DIGITS: usize = 20;
@@ -87,12 +88,12 @@ fn put_digits(out: &mut [u8], i: usize, n: u64) -> usize
     j
 }
 
-// How far a number is from 0. -(z + 1) fits where -z may not.
+// How far a number is from 0.
 fn size(z: i32) -> u64
     ensures { λ r. ⌜ r ≡ natAbs z ⌝ }
 {
     if z < 0 {
-        return (-(z + 1) as u64) + 1;
+        return (below(z) as u64) + 1;
     }
     z as u64
 }
