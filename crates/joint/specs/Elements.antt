@@ -13,7 +13,7 @@ use Rattle.factor.specs.declared.Spot.{Spot}
 use Rattle.factor.specs.Spots.{rowOf}
 use Rattle.factor.specs.Reach.{Numbers, numbers-le}
 use Rattle.factor.specs.Lies.{Lies, row-wide}
-use Rattle.joint.specs.Sums.{columnSums, jointSum, mostColumn, Band, columns-small, joint-small}
+use Rattle.joint.specs.Sums.{across, columnSums, restSums, jointSum, mostColumn, Band, columns-small, joint-small, across-small}
 
 -- ---- definitions
 -- the sign of row m, and its weight on the diagonal, "±4096 inside the sum"
@@ -27,6 +27,10 @@ ownOf d = pos unit *ℤ d
 abbrev pub sumsAt : List ℤ → Spot → ℕ → List ℤ → ℕ → List ℤ
 sumsAt s f i x n = columnSums s (rowOf f i) i (ownOf (signAt s f i)) x n
 
+-- the same without row i itself
+abbrev pub restsAt : List ℤ → Spot → ℕ → List ℤ → ℕ → List ℤ
+restsAt s f i x n = restSums s (rowOf f i) i x n
+
 module _ (s : List ℤ) (f : Spot) (j : ℕ) (d : ℤ) (v : List ℤ) (x : ℤ) where
   -- the rounded sum of an element in column j
   unfoldable pub nudge : ℤ
@@ -37,6 +41,13 @@ module _ (s : List ℤ) (f : Spot) (j : ℕ) (d : ℤ) (v : List ℤ) (x : ℤ) 
 
   unfoldable pub backAt : ℤ
   backAt = (d *ℤ signAt s f j) *ℤ (x -ℤ nudge)
+
+-- the same where v has nothing of the element's own number
+unfoldable pub restNudge : List ℤ → Spot → ℕ → List ℤ → ℤ
+restNudge s f j v = R nearest unit² (across s (rowOf f j) j (ownOf (signAt s f j)) (at v))
+
+unfoldable pub restBack : List ℤ → Spot → ℕ → ℤ → List ℤ → ℤ → ℤ
+restBack s f j d v x = (d *ℤ signAt s f j) *ℤ (x -ℤ restNudge s f j v)
 
 -- element e of a block, from the whole block
 module _ (c : List ℤ) (fa : Spot) (r : List ℤ) (fb : Spot) (x : List ℤ) (e : ℕ) where
@@ -70,3 +81,11 @@ module _ {s : List ℤ} {f : Spot} {d x : ℤ} {v : List ℤ} (h : Lies s f) (j 
   pub nudge-small : Within (mostJoint + 8388608) (nudge s f j d v x)
   unfolding nudge R
   nudge-small = within-shr 16777216 (within-+ element-small (within-pos 8388608))
+
+module _ {s : List ℤ} {f : Spot} {v : List ℤ} (h : Lies s f) (j : ℕ) (l : j < f .order) (q : Numbers mostColumn v) where
+  pub rest-element-small : Within mostJoint (across s (rowOf f j) j (ownOf (signAt s f j)) (at v))
+  rest-element-small = within-le (omega arith) (across-small (band-at h j l) (at v) (q .small))
+
+  pub rest-nudge-small : Within (mostJoint + 8388608) (restNudge s f j v)
+  unfolding restNudge R
+  rest-nudge-small = within-shr 16777216 (within-+ rest-element-small (within-pos 8388608))

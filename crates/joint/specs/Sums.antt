@@ -7,17 +7,15 @@ use Prim.Native.Nat.{ℕ, zero, suc, _+_, _*_, _/_, _%_, _≤_, _<_}
 use native.Mathlib.Nat.{zero-add}
 use native.Mathlib.Nat as NatL
 use native.Mathlib.Numerals.{add-one}
-use native.Mathlib.Decide.{ℕ-discrete}
 use native.Mathlib.Omega.{arith}
 use lib.IntN.{ℤ, pos, _+ℤ_, _-ℤ_, _*ℤ_}
-use lib.ListN.{length, set, replicate, length-set}
-use Rattle.whole.specs.Diff.{lin, Within}
-use Rattle.whole.specs.Laws.{distrib}
-use Rattle.whole.specs.Machine.{within-le, within-+, within--, within-*}
+use lib.ListN.{length, set, replicate}
+use Rattle.whole.specs.Diff.{Within}
+use Rattle.whole.specs.Machine.{within-le, within-+, within--, within-*, within-pos}
 use Rattle.whole.specs.Sum.{sum, sum-cong, sum-within}
 use Rattle.rules.specs.Numbers.{mostEntry, mostAllowance, at}
 use Rattle.rules.specs.Stages.{fill}
-use Rattle.rules.specs.Laws.Lists.{length-fill, fill-at, fill-past, fill-same, same-list, set-at, set-other}
+use Rattle.rules.specs.Laws.Lists.{fill-same, set-other}
 use Rattle.rules.specs.Laws.Rect.{row-of, col-of}
 use Rattle.factor.specs.declared.Row.{Row}
 use Rattle.factor.specs.Reach.{Numbers, RowIn, numbers-set}
@@ -40,6 +38,10 @@ inColumn x n k l = at x (l * n + k)
 unfoldable pub columnSums : List ℤ → Row → ℕ → ℤ → List ℤ → ℕ → List ℤ
 columnSums a r m own x n = fill n (λ k. across a r m own (inColumn x n k)) (replicate 16 (pos 0))
 
+-- the same without row m itself
+unfoldable pub restSums : List ℤ → Row → ℕ → List ℤ → ℕ → List ℤ
+restSums a r m x n = fill n (λ k. entriesSum a r m (inColumn x n k)) (replicate 16 (pos 0))
+
 -- row m times V, less the own term of an element: up is the weight on the diagonal in its row of the block, x its number
 unfoldable pub jointSum : List ℤ → Row → ℕ → ℤ → ℤ → List ℤ → ℤ → ℤ
 jointSum a r m own up v x = across a r m own (at v) -ℤ ((up *ℤ own) *ℤ x)
@@ -52,6 +54,10 @@ mostColumn = 16 * (mostEntry * mostAllowance)
 pub record Band (a : List ℤ) (r : Row) (m : ℕ) (own : ℤ) : Type 0 where
   pub row : RowIn a 16 r m
   pub small : Within mostEntry own
+
+-- a row of entries alone
+pub no-diagonal : {a : List ℤ} {r : Row} {m : ℕ} → RowIn a 16 r m → Band a r m (pos 0)
+no-diagonal h = record { row = h; small = within-le (omega arith) (within-pos 0) }
 
 -- m entries of a from place p on, and numbers of x from place k on, n apart
 pub record Apart (a : List ℤ) (p : ℕ) (x : List ℤ) (k n m : ℕ) : Type 0 where
@@ -195,62 +201,23 @@ columns-same a {r} {m} own {n} h =
     (ap₂ _+ℤ_ (sum-cong (r .left) _ _ (λ j b. rw (h .left j k b l))) (sum-cong (r .right) _ _ (λ j b. rw (h .right j k b l))))
     (rw (h .own k l)))
 
--- ---- V kept up to date: the number of row m in column j became z
-entries-cong : {a : List ℤ} {r : Row} {m : ℕ} {own : ℤ} → Band a r m own → (f g : ℕ → ℤ) → ((l : ℕ) → l ≢ m → f l ≡ g l) → entriesSum a r m f ≡ entriesSum a r m g
+-- ---- the number of row m in column j became z
+-- no other number did
+pub column-other : (x : List ℤ) (m n j : ℕ) (z : ℤ) → j < n → (k t : ℕ) → k < n → (k ≡ j → t ≢ m) → inColumn (set x (m * n + j) z) n k t ≡ inColumn x n k t
+column-other x m n j z l k t b q =
+    set-other x (m * n + j) (t * n + k) z
+    (λ e. q (sym (col-of 0 n t k b) ∙ ap (λ (u : ℕ). u % n) e ∙ col-of 0 n m j l) (sym (row-of 0 n t k b) ∙ ap (λ (u : ℕ). u / n) e ∙ row-of 0 n m j l))
+
+-- and the entries off the diagonal do not look at it
+pub rest-same : {a : List ℤ} {r : Row} (x : List ℤ) {m : ℕ} (n j : ℕ) (z : ℤ) → RowIn a 16 r m → j < n → (k : ℕ) → k < n →
+    entriesSum a r m (inColumn (set x (m * n + j) z) n k) ≡ entriesSum a r m (inColumn x n k)
 unfolding entriesSum
-entries-cong {r} {m} h f g e =
+rest-same {r} x {m} n j z h l k b =
     ap₂ _+ℤ_
-    (sum-cong (r .left) _ _ (λ j b. let l = h .row .left in rw (e j (λ z. omega arith))))
-    (sum-cong (r .right) _ _ (λ j b. rw (e (suc m + j) (λ z. omega arith))))
+    (sum-cong (r .left) _ _ (λ t c. let d = h .left in rw (column-other x m n j z l k t b (λ e f. omega arith))))
+    (sum-cong (r .right) _ _ (λ t c. rw (column-other x m n j z l k (suc m + t) b (λ e f. omega arith))))
 
-module _ {a : List ℤ} {r : Row} {m : ℕ} {own : ℤ} (h : Band a r m own) (x : List ℤ) (n j : ℕ) (z : ℤ) (l : j < n) (few : n ≤ 16) (room : m * n + j < length x) where
-  abbrev x′ : List ℤ
-  x′ = set x (m * n + j) z
-
-  abbrev sums : List ℤ → List ℤ
-  sums y = columnSums a r m own y n
-
-  abbrev each : List ℤ → ℕ → ℤ
-  each y k = across a r m own (inColumn y n k)
-
-  sums-at : (y : List ℤ) (k : ℕ) → k < n → at (sums y) k ≡ each y k
-  unfolding columnSums
-  sums-at y k b = fill-at n _ (replicate 16 (pos 0)) k b few
-
-  sums-past : (y : List ℤ) (k : ℕ) → n ≤ k → at (sums y) k ≡ at (replicate 16 (pos 0)) k
-  unfolding columnSums
-  sums-past y k b = fill-past n _ (replicate 16 (pos 0)) k b
-
-  sums-length : (y : List ℤ) → length (sums y) ≡ 16
-  unfolding columnSums
-  sums-length y = length-fill n _ (replicate 16 (pos 0))
-
-  there : (k t : ℕ) → k < n → (k ≡ j → t ≢ m) → inColumn x′ n k t ≡ inColumn x n k t
-  there k t b q =
-      set-other x (m * n + j) (t * n + k) z
-      (λ e. q (sym (col-of 0 n t k b) ∙ ap (λ (u : ℕ). u % n) e ∙ col-of 0 n m j l) (sym (row-of 0 n t k b) ∙ ap (λ (u : ℕ). u / n) e ∙ row-of 0 n m j l))
-
-  abbrev step : ℤ
-  step = at (sums x) j +ℤ (own *ℤ (z -ℤ at x (m * n + j)))
-
-  plus : (e o y z : ℤ) → e +ℤ (o *ℤ z) ≡ (e +ℤ (o *ℤ y)) +ℤ (o *ℤ (z -ℤ y))
-  plus e o y z = simp distrib (simp lin (omega arith))
-
-  same : (k : ℕ) → k < n → Dec (k ≡ j) → at (sums x′) k ≡ at (set (sums x) j step) k
-  same k b (yes e) =
-      rw e
-      (sums-at x′ j l
-      ∙ ap₂ (λ (p q : ℤ). p +ℤ (own *ℤ q)) (entries-cong h _ _ (λ t q. there j t l (λ i. q))) (set-at x (m * n + j) z room)
-      ∙ plus (entriesSum a r m (inColumn x n j)) own (at x (m * n + j)) z
-      ∙ ap (λ (p : ℤ). p +ℤ (own *ℤ (z -ℤ at x (m * n + j)))) (sym (sums-at x j l))
-      ∙ sym (set-at (sums x) j step (omega (arith, sums-length x))))
-  same k b (no e) =
-      sums-at x′ k b
-      ∙ ap₂ (λ (p q : ℤ). p +ℤ (own *ℤ q)) (entries-cong h _ _ (λ t q. there k t b (λ i. absurd (e i)))) (there k m b (λ i. absurd (e i)))
-      ∙ sym (sums-at x k b)
-      ∙ sym (set-other (sums x) j k step e)
-
-  pub columns-set : columnSums a r m own (set x (m * n + j) z) n ≡ set (columnSums a r m own x n) j (at (columnSums a r m own x n) j +ℤ (own *ℤ (z -ℤ at x (m * n + j))))
-  columns-set =
-      same-list n (sums x′) (set (sums x) j step) (sums-length x′ ∙ sym (length-set (sums x) j step ∙ sums-length x)) (λ k b. same k b (ℕ-discrete k j))
-      (λ k b. sums-past x′ k b ∙ sym (set-other (sums x) j k step (λ e. omega arith) ∙ sums-past x k b))
+pub rests-small : {a : List ℤ} {r : Row} {m : ℕ} {x : List ℤ} (n : ℕ) → RowIn a 16 r m → Numbers mostAllowance x → Numbers mostColumn (restSums a r m x n)
+unfolding restSums
+rests-small {x} n h q =
+    fill-small n _ (replicate 16 (pos 0)) (nothing 16) (λ k l. within-le (omega arith) (entries-small (no-diagonal h) (inColumn x n k) (λ j. q .small (j * n + k))))

@@ -12,9 +12,11 @@ ghost use Rattle.rules.specs.Numbers.{bound};
 ghost use Rattle.factor.specs.Reach.{Numbers};
 ghost use Rattle.factor.specs.Lies.{Lies};
 ghost use Rattle.joint.specs.Sums.{mostColumn};
-ghost use Rattle.joint.specs.Elements.{signAt, ownOf, sumsAt, nudge, outAt, backAt};
+ghost use Rattle.joint.specs.Elements.{signAt, ownOf, sumsAt, restsAt, nudge, restNudge, outAt, restBack};
 use crate::sums::column_sums;
 use crate::sums::joint_sum;
+use crate::sums::rest_sums;
+use crate::sums::whole_sum;
 use factor::Spot;
 use factor::rounding::applied;
 use factor::rounding::undone;
@@ -61,6 +63,14 @@ pub fn sums_at(col: &[i32], f: Spot, i: usize, x: &[i32; 256], n: usize, v: &mut
     column_sums(col, row_of(f, i), i, own_of(sign_at(col, f, i)), x, n, v)
 }
 
+// The same without row i itself.
+pub fn rests_at(col: &[i32], f: Spot, i: usize, x: &[i32; 256], n: usize, v: &mut [i64; 16])
+    requires { ⌜ Lies (now col) f × (i < f .order) × (n ≤ 16) × Numbers bound (now x) × (now v ≡ replicate 16 (pos 0)) ⌝ }
+    ensures { λ _. ⌜ now (v .exit) ≡ restsAt (now (col .entry)) f i (now (x .entry)) n ⌝ }
+{
+    rest_sums(col, row_of(f, i), i, x, n, v)
+}
+
 // The rounded sum of the element in column j.
 fn nudge_at(row: &[i32], f: Spot, j: usize, d: i32, v: &[i64; 16], x: i32) -> i64
     requires { ⌜ Lies (now row) f × (j < f .order) × Sign d × Numbers mostColumn (now v) × Within bound x ⌝ }
@@ -89,14 +99,22 @@ pub fn out_at(row: &[i32], f: Spot, j: usize, d: i32, v: &[i64; 16], x: i32) -> 
     )
 }
 
-// What the element was.
+// The rounded sum of the element in column j, where v has nothing of the element's own number.
+fn rest_nudge_at(row: &[i32], f: Spot, j: usize, v: &[i64; 16]) -> i64
+    requires { ⌜ Lies (now row) f × (j < f .order) × Numbers mostColumn (now v) ⌝ }
+    ensures { λ r. ⌜ r ≡ restNudge (now (row .entry)) f j (now (v .entry)) ⌝ }
+{
+    round_joint(whole_sum(row, row_of(f, j), j, own_of(sign_at(row, f, j)), v))
+}
+
+// What the element was, where v has of its own row the numbers recovered before it.
 pub fn back_at(row: &[i32], f: Spot, j: usize, d: i32, v: &[i64; 16], x: i32) -> i64
     requires { ⌜ Lies (now row) f × (j < f .order) × Sign d × Numbers mostColumn (now v) × Within bound x ⌝ }
-    ensures { λ r. ⌜ r ≡ backAt (now (row .entry)) f j d (now (v .entry)) x ⌝ }
+    ensures { λ r. ⌜ r ≡ restBack (now (row .entry)) f j d (now (v .entry)) x ⌝ }
 {
     undone(
         both_signs(d, sign_at(row, f, j)),
         x,
-        nudge_at(row, f, j, d, v, x),
+        rest_nudge_at(row, f, j, v),
     )
 }

@@ -1,10 +1,7 @@
 // One row of elements: every number that it makes is in bound, or the row stops there.
 ghost use mathlib.Core.Path.{_≡_};
 ghost use Prim.Native.Nat.{_<_};
-ghost use lib.IntN.{_-ℤ_};
 ghost use lib.ListN.{length};
-ghost use mir.Syntax.{w64};
-ghost use mir.Val.{SFits};
 ghost use Rattle.rules.specs.Numbers.{bound, mostAllowance};
 ghost use Rattle.factor.specs.Spots.{placeOf};
 ghost use Rattle.factor.specs.Reach.{Numbers};
@@ -19,6 +16,7 @@ use crate::allowances::size_sums_at;
 use crate::elements::back_at;
 use crate::elements::out_at;
 use crate::elements::own_of;
+use crate::elements::rests_at;
 use crate::elements::sign_at;
 use crate::elements::sums_at;
 use crate::sums::with_sum;
@@ -47,15 +45,8 @@ fn weigh_row(col: &[i32], fa: Spot, row: &[i32], fb: Spot, i: usize, x: &mut [i3
     true
 }
 
-// By how much a number became larger.
-fn change(z: i64, y: i32) -> i64
-    requires { ⌜ SFits w64 y × SFits w64 (z -ℤ y) ⌝ }
-    ensures { λ r. ⌜ r ≡ z -ℤ y ⌝ }
-{
-    z - (y as i64)
-}
-
-// Row i undone in place, in the order of the row sheet's factor. The row's sums go along with the numbers recovered.
+// Row i undone in place, in the order of the row sheet's factor. A number goes into the row's sums when it is recovered: nothing looks at
+// it before.
 pub fn unweigh_row(
     col: &[i32],
     fa: Spot,
@@ -69,18 +60,17 @@ pub fn unweigh_row(
 {
     let n = fb.order;
     let mut v = [0i64; 16];
-    sums_at(col, fa, i, x, n, &mut v);
+    rests_at(col, fa, i, x, n, &mut v);
     for u in 0..n {
         let j = place_of(fb, u);
         let e = i * n + j;
         let d = sign_at(col, fa, i);
-        let y = x[e];
-        let z = back_at(row, fb, j, d, &v, y);
+        let z = back_at(row, fb, j, d, &v, x[e]);
         if !is_within(z, Block::SAMPLE) {
             return false;
         }
         x[e] = z as i32;
-        v[j] = with_sum(v[j], own_of(d), change(z, y));
+        v[j] = with_sum(v[j], own_of(d), z);
     }
     true
 }

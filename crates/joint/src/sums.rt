@@ -8,8 +8,8 @@ ghost use mir.Val.{SFits};
 ghost use Rattle.whole.specs.Diff.{Within};
 ghost use Rattle.whole.specs.Sum.{sum};
 ghost use Rattle.rules.specs.Numbers.{mostEntry, mostAllowance, at};
-ghost use Rattle.factor.specs.Reach.{Numbers};
-ghost use Rattle.joint.specs.Sums.{across, inColumn, columnSums, jointSum, mostColumn, Band, Apart, Wide};
+ghost use Rattle.factor.specs.Reach.{Numbers, RowIn};
+ghost use Rattle.joint.specs.Sums.{entriesSum, across, inColumn, columnSums, restSums, jointSum, mostColumn, Band, Apart, Wide};
 use factor::Row;
 
 // One term more: a weight times a number.
@@ -52,17 +52,33 @@ fn wide_sum(a: &[i32], p: usize, v: &[i64; 16], k: usize, m: usize) -> i64
     sum
 }
 
+// Row m of a matrix, its diagonal left out, times column k of the block.
+fn entry_sum(a: &[i32], r: Row, m: usize, x: &[i32; 256], n: usize, k: usize) -> i64
+    requires { ⌜ RowIn (now a) 16 r m × (n ≤ 16) × (k < n) × Numbers mostAllowance (now x) ⌝ }
+    ensures { λ s. ⌜ s ≡ entriesSum (now (a .entry)) r m (inColumn (now (x .entry)) n k) ⌝ }
+{
+    let at = r.at;
+    let left = r.left;
+    let right = r.right;
+    apart_sum(a, at, x, k, n, left) + apart_sum(a, at + left, x, (m + 1) * n + k, n, right)
+}
+
 // Row m of a matrix, its diagonal own, times column k of the block.
 fn column_sum(a: &[i32], r: Row, m: usize, own: i32, x: &[i32; 256], n: usize, k: usize) -> i64
     requires { ⌜ Band (now a) r m own × (n ≤ 16) × (k < n) × Numbers mostAllowance (now x) ⌝ }
     ensures { λ s. ⌜ s ≡ across (now (a .entry)) r m own (inColumn (now (x .entry)) n k) ⌝ }
 {
-    let at = r.at;
-    let left = r.left;
-    let right = r.right;
-    let sum = apart_sum(a, at, x, k, n, left)
-        + apart_sum(a, at + left, x, (m + 1) * n + k, n, right);
-    with_number(sum, own, x[m * n + k])
+    with_number(entry_sum(a, r, m, x, n, k), own, x[m * n + k])
+}
+
+// Row m of a matrix, its diagonal left out, times each of the n columns of the block, into v.
+pub fn rest_sums(a: &[i32], r: Row, m: usize, x: &[i32; 256], n: usize, v: &mut [i64; 16])
+    requires { ⌜ RowIn (now a) 16 r m × (n ≤ 16) × Numbers mostAllowance (now x) × (now v ≡ replicate 16 (pos 0)) ⌝ }
+    ensures { λ _. ⌜ now (v .exit) ≡ restSums (now (a .entry)) r m (now (x .entry)) n ⌝ }
+{
+    for k in 0..n {
+        v[k] = entry_sum(a, r, m, x, n, k);
+    }
 }
 
 // Row m of a matrix, its diagonal own, times each of the n columns of the block, into v: lent, so that there is one such vector.
@@ -84,7 +100,7 @@ pub fn column_sums(
 }
 
 // Row m of a matrix, its diagonal own, times the sums v.
-fn whole_sum(a: &[i32], r: Row, m: usize, own: i32, v: &[i64; 16]) -> i64
+pub fn whole_sum(a: &[i32], r: Row, m: usize, own: i32, v: &[i64; 16]) -> i64
     requires { ⌜ Band (now a) r m own × Numbers mostColumn (now v) ⌝ }
     ensures { λ s. ⌜ s ≡ across (now (a .entry)) r m own (at (now (v .entry))) ⌝ }
 {

@@ -6,7 +6,7 @@ use mir.Syntax.{w32, w64}
 use mir.Val.{toZ, ofZ}
 use Rattle.whole.specs.Machine.{fits, back, within--, sign-within, within-sign}
 use Rattle.whole.specs.Laws.{Sign, signs-times}
-use Rattle.joint.specs.Elements.{signAt, nudge, backAt, nudge-small}
+use Rattle.joint.specs.Elements.{signAt, restNudge, restBack, rest-nudge-small}
 use borrow.Author.Needs.{needs}
 use Rattle.joint.proofs.elements.back_at.Statement.{statement}
 use Rattle.joint.proofs.elements.back_at.Tie as tie
@@ -26,25 +26,23 @@ signs c = back w32 _ (c .both-signs .ok) ∙ c .both-signs .ensures ∙ rw (sign
 both-signs-requires : tie.Need-both-signs-requires
 both-signs-requires c κs = rw (sign c, toZ-ofZ (c .before .fits .d)) (fits (sign-within (product (c .before))) tt)
 
-nudge-at-requires : tie.Need-nudge-at-requires
-nudge-at-requires c κs =
-    let s = c .before .before in
-    rw (toZ-ofZ (s .fits .d), toZ-ofZ (s .fits .x)) (s .pre)
+rest-nudge-at-requires : tie.Need-rest-nudge-at-requires
+rest-nudge-at-requires c κs = let s = c .before .before in (s .pre .0, s .pre .1, s .pre .3)
 
-told : (c : tie.After-nudge-at) → toZ w64 (ofZ w64 (c .nudge-at .result)) ≡ nudge (c .before .before .before .args .row .now) (c .before .before .before .args .f) (c .before .before .before .args .j) (c .before .before .before .args .d) (c .before .before .before .args .v .now) (c .before .before .before .args .x)
-told c = let s = c .before .before .before in back w64 _ (c .nudge-at .ok) ∙ c .nudge-at .ensures ∙ rw (toZ-ofZ (s .fits .d), toZ-ofZ (s .fits .x))
+told : (c : tie.After-rest-nudge-at) → toZ w64 (ofZ w64 (c .rest-nudge-at .result)) ≡ restNudge (c .before .before .before .args .row .now) (c .before .before .before .args .f) (c .before .before .before .args .j) (c .before .before .before .args .v .now)
+told c = back w64 _ (c .rest-nudge-at .ok) ∙ c .rest-nudge-at .ensures
 
 undone-requires : tie.Need-undone-requires
 undone-requires c κs =
     let s = c .before .before .before in
     let e = product s in
     let x = s .pre .4 in
-    let q = nudge-small (s .pre .0) (s .args .j) (s .pre .1) (s .pre .2) (s .pre .3) x in
+    let q = rest-nudge-small (s .pre .0) (s .args .j) (s .pre .1) (s .pre .3) in
     rw (told c, signs (c .before), toZ-ofZ (s .fits .x))
     (fits (sign-within e) tt, fits x tt, fits (within-- x q) tt, fits (within-sign e (within-- x q)) tt)
 
 returns : tie.Need-returns
-unfolding backAt
+unfolding restBack
 returns c =
     let s = c .before .before .before .before in
     back w64 _ (c .undone .ok) ∙ c .undone .ensures ∙ rw (told (c .before), signs (c .before .before), toZ-ofZ (s .fits .x))
@@ -52,4 +50,4 @@ returns c =
 pub back-at-spec : {M : Type 1} → statement M
 back-at-spec =
     tie.close
-    (tie.spec sign-at-requires both-signs-requires nudge-at-requires undone-requires returns)
+    (tie.spec sign-at-requires both-signs-requires rest-nudge-at-requires undone-requires returns)

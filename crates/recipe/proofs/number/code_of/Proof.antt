@@ -1,6 +1,6 @@
 -- Below zero `Below` has the code by how far below -1 the number is; else `Above` has it twice the number.
 use borrow.Author.Needs.{needs}
-use mathlib.Core.Path.{_≡_, sym, _∙_}
+use mathlib.Core.Path.{_≡_, sym}
 use Prim.Native.Nat.{_-_, _^_, _<_}
 use native.Mathlib.Omega.{arith}
 use lib.IntN.{natAbs}
