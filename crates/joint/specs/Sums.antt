@@ -10,7 +10,8 @@ use native.Mathlib.Numerals.{add-one}
 use native.Mathlib.Omega.{arith}
 use lib.IntN.{ℤ, pos, _+ℤ_, _-ℤ_, _*ℤ_}
 use lib.ListN.{length, set, replicate}
-use Rattle.whole.specs.Diff.{Within}
+use Rattle.whole.specs.Diff.{lin, Within}
+use Rattle.whole.specs.Laws.{distrib}
 use Rattle.whole.specs.Machine.{within-le, within-+, within--, within-*, within-pos}
 use Rattle.whole.specs.Sum.{sum, sum-cong, sum-within}
 use Rattle.rules.specs.Numbers.{mostEntry, mostAllowance, at}
@@ -49,6 +50,10 @@ jointSum a r m own up v x = across a r m own (at v) -ℤ ((up *ℤ own) *ℤ x)
 -- the largest number of V
 abbrev pub mostColumn : ℕ
 mostColumn = 16 * (mostEntry * mostAllowance)
+
+-- and of a column less a number in it
+abbrev pub mostOwn : ℕ
+mostOwn = mostColumn + mostEntry * mostAllowance
 
 -- ---- what the code asks
 pub record Band (a : List ℤ) (r : Row) (m : ℕ) (own : ℤ) : Type 0 where
@@ -180,6 +185,14 @@ fill-small (suc n) f v h g = numbers-set (fill n f v) n (fill-small n f v h (λ 
 pub columns-small : {a : List ℤ} {r : Row} {m : ℕ} {own : ℤ} {x : List ℤ} (n : ℕ) → Band a r m own → Numbers mostAllowance x → Numbers mostColumn (columnSums a r m own x n)
 unfolding columnSums
 columns-small {x} n h q = fill-small n _ (replicate 16 (pos 0)) (nothing 16) (λ k l. across-small h (inColumn x n k) (λ j. q .small (j * n + k)))
+
+-- the own term comes off before or after the diagonal's weight
+pub own-first : (a : List ℤ) (r : Row) (m : ℕ) (own up : ℤ) (v : List ℤ) (x : ℤ) → entriesSum a r m (at v) +ℤ (own *ℤ (at v m -ℤ (up *ℤ x))) ≡ jointSum a r m own up v x
+unfolding jointSum
+own-first a r m own up v x = plain (entriesSum a r m (at v)) own (at v m) up x
+  where
+    plain : (e o w u y : ℤ) → e +ℤ (o *ℤ (w -ℤ (u *ℤ y))) ≡ (e +ℤ (o *ℤ w)) -ℤ ((u *ℤ o) *ℤ y)
+    plain e o w u y = simp distrib (simp lin (omega arith))
 
 pub joint-small : {a : List ℤ} {r : Row} {m : ℕ} {own up x : ℤ} {v : List ℤ} → Band a r m own → Within mostEntry up → Numbers mostColumn v → Within mostAllowance x →
     Within (16 * (mostEntry * mostColumn) + mostEntry * mostEntry * mostAllowance) (jointSum a r m own up v x)

@@ -104,7 +104,7 @@ fn rest_nudge_at(row: &[i32], f: Spot, j: usize, v: &[i64; 16]) -> i64
     requires { ⌜ Lies (now row) f × (j < f .order) × Numbers mostColumn (now v) ⌝ }
     ensures { λ r. ⌜ r ≡ restNudge (now (row .entry)) f j (now (v .entry)) ⌝ }
 {
-    round_joint(whole_sum(row, row_of(f, j), j, own_of(sign_at(row, f, j)), v))
+    round_joint(whole_sum(row, row_of(f, j), j, own_of(sign_at(row, f, j)), v, v[j]))
 }
 
 // What the element was, where v has of its own row the numbers recovered before it.

@@ -9,7 +9,7 @@ ghost use Rattle.whole.specs.Diff.{Within};
 ghost use Rattle.whole.specs.Sum.{sum};
 ghost use Rattle.rules.specs.Numbers.{mostEntry, mostAllowance, at};
 ghost use Rattle.factor.specs.Reach.{Numbers, RowIn};
-ghost use Rattle.joint.specs.Sums.{entriesSum, across, inColumn, columnSums, restSums, jointSum, mostColumn, Band, Apart, Wide};
+ghost use Rattle.joint.specs.Sums.{entriesSum, across, inColumn, columnSums, restSums, jointSum, mostColumn, mostOwn, Band, Apart, Wide};
 use factor::Row;
 
 // One term more: a weight times a number.
@@ -99,24 +99,24 @@ pub fn column_sums(
     }
 }
 
-// Row m of a matrix, its diagonal own, times the sums v.
-pub fn whole_sum(a: &[i32], r: Row, m: usize, own: i32, v: &[i64; 16]) -> i64
-    requires { ⌜ Band (now a) r m own × Numbers mostColumn (now v) ⌝ }
-    ensures { λ s. ⌜ s ≡ across (now (a .entry)) r m own (at (now (v .entry))) ⌝ }
+// Row m of a matrix, its diagonal own, times the sums v, where w stands in column m.
+pub fn whole_sum(a: &[i32], r: Row, m: usize, own: i32, v: &[i64; 16], w: i64) -> i64
+    requires { ⌜ Band (now a) r m own × Numbers mostColumn (now v) × Within mostOwn w ⌝ }
+    ensures { λ s. ⌜ s ≡ entriesSum (now (a .entry)) r m (at (now (v .entry))) +ℤ (own *ℤ w) ⌝ }
 {
     let at = r.at;
     let left = r.left;
     let right = r.right;
     let sum = wide_sum(a, at, v, 0, left) + wide_sum(a, at + left, v, m + 1, right);
-    with_sum(sum, own, v[m])
+    with_sum(sum, own, w)
 }
 
-// A sum less an element's own term.
-fn without_own(sum: i64, a: i32, b: i32, x: i32) -> i64
-    requires { ⌜ SFits w64 a × SFits w64 b × SFits w64 x × SFits w64 (a *ℤ b) × SFits w64 ((a *ℤ b) *ℤ x) × SFits w64 (sum -ℤ ((a *ℤ b) *ℤ x)) ⌝ }
-    ensures { λ s. ⌜ s ≡ sum -ℤ ((a *ℤ b) *ℤ x) ⌝ }
+// The sum of a column without the number x, whose weight is up.
+fn without(v: i64, up: i32, x: i32) -> i64
+    requires { ⌜ SFits w64 up × SFits w64 x × SFits w64 (up *ℤ x) × SFits w64 (v -ℤ (up *ℤ x)) ⌝ }
+    ensures { λ s. ⌜ s ≡ v -ℤ (up *ℤ x) ⌝ }
 {
-    sum - (a as i64) * (b as i64) * (x as i64)
+    v - (up as i64) * (x as i64)
 }
 
 // The sum of an element: row m of a matrix, its diagonal own, times the sums v of the element's row, less the own term. The number is x,
@@ -125,5 +125,5 @@ pub fn joint_sum(a: &[i32], r: Row, m: usize, own: i32, up: i32, v: &[i64; 16], 
     requires { ⌜ Band (now a) r m own × Within mostEntry up × Numbers mostColumn (now v) × Within mostAllowance x ⌝ }
     ensures { λ s. ⌜ s ≡ jointSum (now (a .entry)) r m own up (now (v .entry)) x ⌝ }
 {
-    without_own(whole_sum(a, r, m, own, v), up, own, x)
+    whole_sum(a, r, m, own, v, without(v[m], up, x))
 }

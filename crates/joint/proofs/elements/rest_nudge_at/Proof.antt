@@ -4,7 +4,7 @@ use native.Mathlib.Omega.{arith}
 use lib.IntN.{ℤ}
 use mir.Syntax.{w32, w64}
 use mir.Val.{toZ, ofZ}
-use Rattle.whole.specs.Machine.{fits, back, within-+, within-pos, within-shr}
+use Rattle.whole.specs.Machine.{fits, reads, back, within-le, within-+, within-pos, within-shr}
 use Rattle.rules.specs.Numbers.{at}
 use Rattle.rules.specs.Stages.{R}
 use Rattle.factor.specs.Spots.{rowOf}
@@ -31,20 +31,31 @@ own-of-requires c κs =
     let s = c .before .before in
     rw (sign c) (fits (own-small (s .pre .0 .sign (s .args .j) (s .pre .1))) tt)
 
+mul-whole-sum : tie.Need-mul-whole-sum
+mul-whole-sum c = let s = c .before .before .before in let h = s .pre .0 .order in let l = s .pre .1 in omega arith
+
+element-copy-out-whole-sum : tie.Need-element-copy-out-whole-sum
+element-copy-out-whole-sum c = let s = c .before .before .before in let h = s .pre .0 .order in let l = s .pre .1 in omega arith
+
 whole-sum-requires : tie.Need-whole-sum-requires
 whole-sum-requires c κs =
-    let s = c .before .before .before in
-    rw (own c, c .before .before .row-of .ensures) (band-at (s .pre .0) (s .args .j) (s .pre .1), s .pre .2)
+    let o = c .before in
+    let s = o .before .before .before in
+    let v = s .pre .2 .small (s .args .j) in
+    rw (own o, o .before .before .row-of .ensures, reads w64 v tt) (band-at (s .pre .0) (s .args .j) (s .pre .1), s .pre .2, within-le (omega arith) v)
 
 abbrev J : tie.Start → ℤ
 J s = across (s .args .row .now) (rowOf (s .args .f) (s .args .j)) (s .args .j) (ownOf (signAt (s .args .row .now) (s .args .f) (s .args .j))) (at (s .args .v .now))
 
-value : (c : tie.After-whole-sum) → toZ w64 (ofZ w64 (c .whole-sum .result)) ≡ J (c .before .before .before .before)
-value c = back w64 _ (c .whole-sum .ok) ∙ c .whole-sum .ensures ∙ rw (own (c .before), c .before .before .before .row-of .ensures)
+value : (c : tie.After-whole-sum) → toZ w64 (ofZ w64 (c .whole-sum .result)) ≡ J (c .before .before .before .before .before)
+value c =
+    let o = c .before .before in
+    let s = o .before .before .before in
+    back w64 _ (c .whole-sum .ok) ∙ c .whole-sum .ensures ∙ rw (own o, o .before .before .row-of .ensures, reads w64 (s .pre .2 .small (s .args .j)) tt)
 
 round-joint-requires : tie.Need-round-joint-requires
 round-joint-requires c κs =
-    let s = c .before .before .before .before in
+    let s = c .before .before .before .before .before in
     let t = rest-element-small (s .pre .0) (s .args .j) (s .pre .1) (s .pre .2) in
     rw (value c) (fits (within-+ t (within-pos 8388608)) tt, fits (within-shr 16777216 (within-+ t (within-pos 8388608))) tt)
 
@@ -59,6 +70,8 @@ rest-nudge-at-spec =
     row-of-requires
     sign-at-requires
     own-of-requires
+    mul-whole-sum
+    element-copy-out-whole-sum
     whole-sum-requires
     round-joint-requires
     returns)

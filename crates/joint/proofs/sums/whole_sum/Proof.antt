@@ -39,28 +39,19 @@ small s = entries-small (s .pre .0) (at (s .args .v .now)) (s .pre .1 .small)
 add-sum : tie.Need-add-sum
 add-sum c = rw (value c) (fits (small (c .before .before)) tt)
 
-mul-with-sum : tie.Need-mul-with-sum
-mul-with-sum c = search needs
-
-element-copy-out-with-sum : tie.Need-element-copy-out-with-sum
-element-copy-out-with-sum c = search needs
-
 with-sum-requires : tie.Need-with-sum-requires
 with-sum-requires c κs =
-    let s = c .before .before .before in
+    let s = c .before .before in
     let a = s .pre .0 .small in
-    let x = s .pre .1 .small (s .args .m) in
+    let w = s .pre .2 in
     let t = small s in
-    rw (value (c .before), reads w64 t tt, reads w32 a tt, reads w64 x tt)
-    (fits a tt, fits (within-* a x) tt, fits (within-+ t (within-* a x)) tt)
+    rw (value c, reads w64 t tt, reads w32 a tt, reads w64 w tt) (fits a tt, fits (within-* a w) tt, fits (within-+ t (within-* a w)) tt)
 
 returns : tie.Need-returns
 returns c =
-    let s = c .before .before .before .before in
-    let a = s .pre .0 .small in
-    let x = s .pre .1 .small (s .args .m) in
+    let s = c .before .before .before in
     let t = small s in
-    back w64 _ (c .with-sum .ok) ∙ c .with-sum .ensures ∙ rw (value (c .before .before), reads w64 t tt, reads w32 a tt, reads w64 x tt)
+    back w64 _ (c .with-sum .ok) ∙ c .with-sum .ensures ∙ rw (value (c .before), reads w64 t tt, reads w32 (s .pre .0 .small) tt, reads w64 (s .pre .2) tt)
 
 pub whole-sum-spec : {M : Type 1} → statement M
 whole-sum-spec =
@@ -71,7 +62,5 @@ whole-sum-spec =
     add-wide-sum-2
     wide-sum-requires-2
     add-sum
-    mul-with-sum
-    element-copy-out-with-sum
     with-sum-requires
     returns)
