@@ -4,11 +4,12 @@ use mathlib.Core.List.{List}
 use mathlib.Core.Logic.{_≢_}
 use mathlib.Core.Path.{_≡_, refl, sym, ap, ap₂, _∙_}
 use Prim.Native.Nat.{ℕ, zero, suc, _+_, _*_, _/_, _%_, _≤_, _<_}
-use native.Mathlib.Nat.{zero-add}
+use native.Mathlib.Nat.{zero-add, mul-le-mul}
 use native.Mathlib.Nat as NatL
 use native.Mathlib.Numerals.{add-one}
+use native.Mathlib.Decide.{decLt}
 use native.Mathlib.Omega.{arith}
-use lib.IntN.{ℤ, pos, _+ℤ_, _-ℤ_, _*ℤ_}
+use lib.IntN.{ℤ, pos, _+ℤ_, _-ℤ_, _*ℤ_, +ℤ-idl, +ℤ-idr, +ℤ-assoc}
 use lib.ListN.{length, set, replicate}
 use Rattle.whole.specs.Diff.{lin, Within}
 use Rattle.whole.specs.Laws.{distrib}
@@ -16,10 +17,10 @@ use Rattle.whole.specs.Machine.{within-le, within-+, within--, within-*, within
 use Rattle.whole.specs.Sum.{sum, sum-cong, sum-within}
 use Rattle.rules.specs.Numbers.{mostEntry, mostAllowance, at}
 use Rattle.rules.specs.Stages.{fill}
-use Rattle.rules.specs.Laws.Lists.{fill-same, set-other}
+use Rattle.rules.specs.Laws.Lists.{length-fill, fill-at, fill-past, fill-same, same-list, set-other}
 use Rattle.rules.specs.Laws.Rect.{row-of, col-of}
 use Rattle.factor.specs.declared.Row.{Row}
-use Rattle.factor.specs.Reach.{Numbers, RowIn, numbers-set}
+use Rattle.factor.specs.Reach.{Numbers, RowIn, numbers-le, numbers-set}
 
 -- ---- definitions
 -- row m: its entries, each times the number f of its column
@@ -34,6 +35,14 @@ across a r m own f = entriesSum a r m f +ℤ (own *ℤ f m)
 -- the number of row l in column k of a block whose rows have n numbers
 abbrev pub inColumn : List ℤ → ℕ → ℕ → ℕ → ℤ
 inColumn x n k l = at x (l * n + k)
+
+-- a row of sums, each of the first n with a number more
+abbrev pub added : ℕ → (ℕ → ℤ) → List ℤ → List ℤ
+added n f v = fill n (λ c. at v c +ℤ f c) v
+
+-- m numbers of a from place p on, each times a row of the block, in column c; the first row starts at place k
+unfoldable pub rowsSum : List ℤ → ℕ → ℕ → List ℤ → ℕ → ℕ → ℕ → ℤ
+rowsSum a p m x k n c = sum m (λ j. at a (p + j) *ℤ at x (k + j * n + c))
 
 -- "V": row m times each of the n columns
 unfoldable pub columnSums : List ℤ → Row → ℕ → ℤ → List ℤ → ℕ → List ℤ
@@ -64,13 +73,21 @@ pub record Band (a : List ℤ) (r : Row) (m : ℕ) (own : ℤ) : Type 0 where
 pub no-diagonal : {a : List ℤ} {r : Row} {m : ℕ} → RowIn a 16 r m → Band a r m (pos 0)
 no-diagonal h = record { row = h; small = within-le (omega arith) (within-pos 0) }
 
--- m entries of a from place p on, and numbers of x from place k on, n apart
-pub record Apart (a : List ℤ) (p : ℕ) (x : List ℤ) (k n m : ℕ) : Type 0 where
-  pub few : m ≤ 16
+-- the largest product of an entry and a number
+abbrev pub product : ℕ
+product = mostEntry * mostAllowance
+
+-- m entries of a from place p on, rows of x from place k on, and sums of some products
+pub record Adding (a : List ℤ) (p m : ℕ) (x : List ℤ) (k n : ℕ) (v : List ℤ) : Type 0 where
+  pub some : ℕ
+  pub few : some + m ≤ 16
+  pub wide : n ≤ 16
   pub room : p + m ≤ length a
-  pub places : (j : ℕ) → j < m → k + j * n < 256
+  pub places : k + m * n ≤ 256
   pub entries : (j : ℕ) → j < m → Within mostEntry (at a (p + j))
   pub numbers : Numbers mostAllowance x
+  pub small : Numbers (some * product) v
+  pub long : length v ≡ 16
 
 -- m entries of a from place p on, and numbers of V from place k on
 pub record Wide (a : List ℤ) (p : ℕ) (v : List ℤ) (k m : ℕ) : Type 0 where
@@ -78,11 +95,6 @@ pub record Wide (a : List ℤ) (p : ℕ) (v : List ℤ) (k m : ℕ) : Type 0 whe
   pub columns : k + m ≤ 16
   pub entries : (j : ℕ) → j < m → Within mostEntry (at a (p + j))
   pub numbers : Numbers mostColumn v
-
-pub apart-small : {a x : List ℤ} {p k n m : ℕ} → Apart a p x k n m → (i : ℕ) → i ≤ m → Within mostColumn (sum i (λ j. at a (p + j) *ℤ at x (k + j * n)))
-apart-small {m} t i l =
-    let h = t .few in
-    within-le (omega arith) (sum-within i _ (λ j b. within-* (t .entries j (omega arith)) (t .numbers .small _)))
 
 pub wide-small : {a v : List ℤ} {p k m : ℕ} → Wide a p v k m → (i : ℕ) → i ≤ m → Within (16 * (mostEntry * mostColumn)) (sum i (λ j. at a (p + j) *ℤ at v (k + j)))
 wide-small {m} t i l =
@@ -107,32 +119,6 @@ module _ {a : List ℤ} {r : Row} {m : ℕ} {own : ℤ} (h : Band a r m own) whe
     pub across-small : Within (16 * (mostEntry * B)) (across a r m own f)
     across-small = within-le (omega arith) (within-+ entries-small (within-* (h .small) (k m)))
 
-  -- the places of a row's entries and of its columns
-  module _ {x : List ℤ} {n k : ℕ} (l : n ≤ 16) (b : k < n) (q : Numbers mostAllowance x) where
-    reach : (j : ℕ) → j < 16 → j * n + k < 256
-    reach j g = omega (arith, NatL.mul-le-mul-right n g)
-
-    pub left-apart : Apart a (r .at) x k n (r .left)
-    left-apart = record {
-      few = let s = h .row .left in let t = h .row .right in omega arith;
-      room = let s = h .row .room in omega arith;
-      places = λ j g. let s = h .row .left in let t = h .row .right in omega (arith, reach j (omega arith));
-      entries = λ j g. h .row .entries j (omega arith);
-      numbers = q;
-    }
-
-    pub right-apart : Apart a (r .at + r .left) x ((m + 1) * n + k) n (r .right)
-    right-apart = record {
-      few = let t = h .row .right in omega arith;
-      room = let s = h .row .room in omega arith;
-      places = λ j g. let t = h .row .right in omega (arith, reach (suc m + j) (omega arith));
-      entries = λ j g. let e : r .at + (r .left + j) ≡ r .at + r .left + j = omega arith in rw e at (h .row .entries (r .left + j) (omega arith));
-      numbers = q;
-    }
-
-    pub own-reach : m * n + k < 256
-    own-reach = let t = h .row .right in reach m (omega arith)
-
   module _ {v : List ℤ} (q : Numbers mostColumn v) where
     pub left-wide : Wide a (r .at) v 0 (r .left)
     left-wide = record {
@@ -151,23 +137,13 @@ module _ {a : List ℤ} {r : Row} {m : ℕ} {own : ℤ} (h : Band a r m own) whe
     }
 
 -- both sums, as the code makes them
-pub apart-runs : (a : List ℤ) (r : Row) (m : ℕ) (x : List ℤ) (n k : ℕ) →
-    sum (r .left) (λ j. at a (r .at + j) *ℤ at x (k + j * n))
-    +ℤ sum (r .right) (λ j. at a (r .at + r .left + j) *ℤ at x ((m + 1) * n + k + j * n))
-    ≡ entriesSum a r m (inColumn x n k)
-unfolding entriesSum
-apart-runs a r m x n k =
-    ap₂ _+ℤ_
-    (sum-cong (r .left) _ _ (λ j b. let e : k + j * n ≡ j * n + k = omega arith in rw e))
-    (sum-cong (r .right) _ _ (λ j b. let e : (m + 1) * n + k + j * n ≡ (suc m + j) * n + k = omega arith in rw e))
-
 pub wide-runs : (a : List ℤ) (r : Row) (m : ℕ) (v : List ℤ) →
     sum (r .left) (λ j. at a (r .at + j) *ℤ at v (0 + j)) +ℤ sum (r .right) (λ j. at a (r .at + r .left + j) *ℤ at v (m + 1 + j))
     ≡ entriesSum a r m (at v)
 unfolding entriesSum
 wide-runs a r m v = ap₂ _+ℤ_ (sum-cong (r .left) _ _ (λ j b. rw zero-add)) (sum-cong (r .right) _ _ (λ j b. rw add-one))
 
--- ---- V holds small numbers, whatever its place
+-- ---- V row by row
 zero-at : (n k : ℕ) → at (replicate n (pos 0)) k ≡ pos 0
 zero-at zero zero = refl
 zero-at zero (suc k) = refl
@@ -177,6 +153,101 @@ zero-at (suc n) (suc k) = zero-at n k
 pub nothing : {B : ℕ} (n : ℕ) → Numbers B (replicate n (pos 0))
 nothing n = record { small = λ k. rw (zero-at n k) (record { within = omega arith }) }
 
+pub fill-over : (n : ℕ) (f g : ℕ → ℤ) (v : List ℤ) → n ≤ length v → fill n f (fill n g v) ≡ fill n f v
+fill-over n f g v l =
+    let e = length-fill n g v in
+    same-list n _ _
+    (length-fill n f (fill n g v) ∙ e ∙ sym (length-fill n f v))
+    (λ c b. fill-at n f (fill n g v) c b (omega arith) ∙ sym (fill-at n f v c b l))
+    (λ c b. fill-past n f (fill n g v) c b ∙ fill-past n g v c b ∙ sym (fill-past n f v c b))
+
+-- one after the other
+pub added-twice : (n : ℕ) (f g : ℕ → ℤ) (v : List ℤ) → n ≤ length v → added n g (added n f v) ≡ added n (λ c. f c +ℤ g c) v
+added-twice n f g v l =
+    fill-over n _ _ v l
+    ∙ fill-same n _ _ v (λ c b. ap (λ (z : ℤ). z +ℤ g c) (fill-at n _ v c b l) ∙ +ℤ-assoc (at v c) (f c) (g c))
+
+pub added-small : (n : ℕ) (f : ℕ → ℤ) (v : List ℤ) (s j : ℕ) → n ≤ length v → Numbers (s * product) v → ((c : ℕ) → c < n → Within (j * product) (f c)) → Numbers ((s + j) * product) (added n f v)
+added-small n f v s j l h g = record { small = λ c. go c (decLt c n) }
+  where
+    go : (c : ℕ) → Dec (c < n) → Within ((s + j) * product) (at (added n f v) c)
+    go c (yes b) = rw (fill-at n (λ c. at v c +ℤ f c) v c b l) (within-le (omega arith) (within-+ (h .small c) (g c b)))
+    go c (no b) = rw (fill-past n (λ c. at v c +ℤ f c) v c (omega arith)) (within-le (omega arith) (h .small c))
+
+rows-small : {a x v : List ℤ} {p m k n : ℕ} → Adding a p m x k n v → (j : ℕ) → j ≤ m → (c : ℕ) → Within (j * product) (rowsSum a p j x k n c)
+unfolding rowsSum
+rows-small t j l c = sum-within j _ (λ i b. within-* (t .entries i (omega arith)) (t .numbers .small _))
+
+-- before the first row, and after j
+pub added-none : {a x v : List ℤ} {p m k n : ℕ} → Adding a p m x k n v → v ≡ added n (rowsSum a p 0 x k n) v
+unfolding rowsSum sum
+added-none {v} {n} t =
+    let e = t .wide in
+    let l : n ≤ length v = omega (arith, t .long) in
+    same-list n v _ (sym (length-fill n _ v)) (λ c b. sym (fill-at n _ v c b l ∙ +ℤ-idr (at v c))) (λ c b. sym (fill-past n _ v c b))
+
+pub adding-small : {a x v : List ℤ} {p m k n : ℕ} → Adding a p m x k n v → (j : ℕ) → j < m → Numbers mostColumn (added n (rowsSum a p j x k n) v)
+adding-small {v} {n} t j l =
+    let d = t .few in
+    let e = t .wide in
+    numbers-le (omega arith) (added-small n _ v (t .some) j (omega (arith, t .long)) (t .small) (λ c b. rows-small t j (omega arith) c))
+
+pub adding-next : {a x v : List ℤ} {p m k n : ℕ} → Adding a p m x k n v → (j : ℕ) →
+    added n (λ c. at a (p + j) *ℤ at x (k + j * n + c)) (added n (rowsSum a p j x k n) v) ≡ added n (rowsSum a p (j + 1) x k n) v
+unfolding rowsSum sum
+adding-next {v} {n} t j = let e = t .wide in added-twice n _ _ v (omega (arith, t .long)) ∙ rw add-one
+
+-- the two runs of entries
+module _ {a : List ℤ} {r : Row} {m : ℕ} (h : RowIn a 16 r m) {x : List ℤ} {n : ℕ} (few : n ≤ 16) (q : Numbers mostAllowance x) where
+  abbrev zeros : List ℤ
+  zeros = replicate 16 (pos 0)
+
+  pub above : Adding a (r .at) (r .left) x 0 n (replicate 16 (pos 0))
+  above = record {
+    some = 0;
+    few = let d = h .left in let e = h .right in omega arith;
+    wide = few;
+    room = let d = h .room in omega arith;
+    places = let d : r .left ≤ 16 = (let d = h .left in let e = h .right in omega arith) in omega (arith, mul-le-mul d few);
+    entries = λ j b. h .entries j (omega arith);
+    numbers = q;
+    small = nothing 16;
+    long = refl;
+  }
+
+  pub below : Adding a (r .at + r .left) (r .right) x ((m + 1) * n) n (added n (rowsSum a (r .at) (r .left) x 0 n) (replicate 16 (pos 0)))
+  below = record {
+    some = r .left;
+    few = let d = h .left in let e = h .right in omega arith;
+    wide = few;
+    room = let d = h .room in omega arith;
+    places = omega (arith, mul-le-mul (h .right) few);
+    entries = λ j b. let e : r .at + (r .left + j) ≡ r .at + r .left + j = omega arith in rw e at (h .entries (r .left + j) (omega arith));
+    numbers = q;
+    small = numbers-le (omega arith) (added-small n _ zeros 0 (r .left) few (nothing 16) (λ c b. rows-small above (r .left) (omega arith) c));
+    long = length-fill n _ zeros;
+  }
+
+  -- together
+  pub rest-rows : added n (rowsSum a (r .at + r .left) (r .right) x ((m + 1) * n) n) (added n (rowsSum a (r .at) (r .left) x 0 n) (replicate 16 (pos 0))) ≡ restSums a r m x n
+  unfolding restSums entriesSum rowsSum
+  rest-rows =
+      added-twice n _ _ zeros few
+      ∙ fill-same n _ _ zeros
+      (λ c b.
+      rw (zero-at 16 c)
+      (+ℤ-idl _
+      ∙ ap₂ _+ℤ_
+      (sum-cong (r .left) _ _ (λ j g. rw zero-add))
+      (sum-cong (r .right) _ _ (λ j g. let e : (m + 1) * n + j * n + c ≡ (suc m + j) * n + c = omega arith in rw e))))
+
+  -- and row m itself
+  pub column-rows : (own : ℤ) → added n (λ c. own *ℤ at x (m * n + c)) (restSums a r m x n) ≡ columnSums a r m own x n
+  unfolding restSums columnSums
+  column-rows own =
+      fill-over n _ _ zeros few ∙ fill-same n _ _ zeros (λ c b. ap (λ (z : ℤ). z +ℤ (own *ℤ at x (m * n + c))) (fill-at n _ zeros c b few))
+
+-- ---- V holds small numbers, whatever its place
 pub fill-small : {B : ℕ} (n : ℕ) (f : ℕ → ℤ) (v : List ℤ) → Numbers B v → ((k : ℕ) → k < n → Within B (f k)) → Numbers B (fill n f v)
 unfolding fill
 fill-small zero f v h g = h

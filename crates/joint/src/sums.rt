@@ -1,6 +1,6 @@
 // The sum of a joint stage in two steps, in 64 bits: the sums V over the columns for a row of the block, and a sum over V.
 ghost use mathlib.Core.Path.{_≡_};
-ghost use Prim.Native.Nat.{_+_, _*_, _≤_, _<_};
+ghost use Prim.Native.Nat.{_+_, _*_, _≤_};
 ghost use lib.IntN.{pos, _+ℤ_, _-ℤ_, _*ℤ_};
 ghost use lib.ListN.{replicate};
 ghost use mir.Syntax.{w64};
@@ -9,7 +9,7 @@ ghost use Rattle.whole.specs.Diff.{Within};
 ghost use Rattle.whole.specs.Sum.{sum};
 ghost use Rattle.rules.specs.Numbers.{mostEntry, mostAllowance, at};
 ghost use Rattle.factor.specs.Reach.{Numbers, RowIn};
-ghost use Rattle.joint.specs.Sums.{entriesSum, across, inColumn, columnSums, restSums, jointSum, mostColumn, mostOwn, Band, Apart, Wide};
+ghost use Rattle.joint.specs.Sums.{added, rowsSum, entriesSum, columnSums, restSums, jointSum, mostColumn, mostOwn, Band, Adding, Wide};
 use factor::Row;
 
 // One term more: a weight times a number.
@@ -28,18 +28,6 @@ pub fn with_sum(sum: i64, a: i32, v: i64) -> i64
     sum + (a as i64) * v
 }
 
-// The m numbers of a from place p on, each times a number of x: from place k on, n apart.
-fn apart_sum(a: &[i32], p: usize, x: &[i32; 256], k: usize, n: usize, m: usize) -> i64
-    requires { ⌜ Apart (now a) p (now x) k n m ⌝ }
-    ensures { λ s. ⌜ s ≡ sum m (λ j. at (now (a .entry)) (p + j) *ℤ at (now (x .entry)) (k + j * n)) ⌝ }
-{
-    let mut sum: i64 = 0;
-    for j in 0..m {
-        sum = with_number(sum, a[p + j], x[k + j * n]);
-    }
-    sum
-}
-
 // The m numbers of a from place p on, each times one of v from place k on.
 fn wide_sum(a: &[i32], p: usize, v: &[i64; 16], k: usize, m: usize) -> i64
     requires { ⌜ Wide (now a) p (now v) k m ⌝ }
@@ -52,23 +40,25 @@ fn wide_sum(a: &[i32], p: usize, v: &[i64; 16], k: usize, m: usize) -> i64
     sum
 }
 
-// Row m of a matrix, its diagonal left out, times column k of the block.
-fn entry_sum(a: &[i32], r: Row, m: usize, x: &[i32; 256], n: usize, k: usize) -> i64
-    requires { ⌜ RowIn (now a) 16 r m × (n ≤ 16) × (k < n) × Numbers mostAllowance (now x) ⌝ }
-    ensures { λ s. ⌜ s ≡ entriesSum (now (a .entry)) r m (inColumn (now (x .entry)) n k) ⌝ }
+// One row of the block more: a times each of its n numbers, from place k on, into the sums v. Sums are lent, so that there is one row of
+// them, and go row by row, since the numbers of a row lie side by side.
+fn add_row(a: i32, x: &[i32; 256], k: usize, n: usize, v: &mut [i64; 16])
+    requires { ⌜ (n ≤ 16) × (k + n ≤ 256) × Within mostEntry a × Numbers mostAllowance (now x) × Numbers mostColumn (now v) ⌝ }
+    ensures { λ _. ⌜ now (v .exit) ≡ added n (λ c. a *ℤ at (now (x .entry)) (k + c)) (now (v .entry)) ⌝ }
 {
-    let at = r.at;
-    let left = r.left;
-    let right = r.right;
-    apart_sum(a, at, x, k, n, left) + apart_sum(a, at + left, x, (m + 1) * n + k, n, right)
+    for c in 0..n {
+        v[c] = with_number(v[c], a, x[k + c]);
+    }
 }
 
-// Row m of a matrix, its diagonal own, times column k of the block.
-fn column_sum(a: &[i32], r: Row, m: usize, own: i32, x: &[i32; 256], n: usize, k: usize) -> i64
-    requires { ⌜ Band (now a) r m own × (n ≤ 16) × (k < n) × Numbers mostAllowance (now x) ⌝ }
-    ensures { λ s. ⌜ s ≡ across (now (a .entry)) r m own (inColumn (now (x .entry)) n k) ⌝ }
+// The m numbers of a from place p on, each times a row of the block, the first of which starts at place k.
+fn add_rows(a: &[i32], p: usize, m: usize, x: &[i32; 256], k: usize, n: usize, v: &mut [i64; 16])
+    requires { ⌜ Adding (now a) p m (now x) k n (now v) ⌝ }
+    ensures { λ _. ⌜ now (v .exit) ≡ added n (rowsSum (now (a .entry)) p m (now (x .entry)) k n) (now (v .entry)) ⌝ }
 {
-    with_number(entry_sum(a, r, m, x, n, k), own, x[m * n + k])
+    for j in 0..m {
+        add_row(a[p + j], x, k + j * n, n, v);
+    }
 }
 
 // Row m of a matrix, its diagonal left out, times each of the n columns of the block, into v.
@@ -76,12 +66,14 @@ pub fn rest_sums(a: &[i32], r: Row, m: usize, x: &[i32; 256], n: usize, v: &mut 
     requires { ⌜ RowIn (now a) 16 r m × (n ≤ 16) × Numbers mostAllowance (now x) × (now v ≡ replicate 16 (pos 0)) ⌝ }
     ensures { λ _. ⌜ now (v .exit) ≡ restSums (now (a .entry)) r m (now (x .entry)) n ⌝ }
 {
-    for k in 0..n {
-        v[k] = entry_sum(a, r, m, x, n, k);
-    }
+    let at = r.at;
+    let left = r.left;
+    let right = r.right;
+    add_rows(a, at, left, x, 0, n, v);
+    add_rows(a, at + left, right, x, (m + 1) * n, n, v);
 }
 
-// Row m of a matrix, its diagonal own, times each of the n columns of the block, into v: lent, so that there is one such vector.
+// Row m of a matrix, its diagonal own, times each of the n columns of the block, into v.
 pub fn column_sums(
     a: &[i32],
     r: Row,
@@ -94,9 +86,8 @@ pub fn column_sums(
     requires { ⌜ Band (now a) r m own × (n ≤ 16) × Numbers mostAllowance (now x) × (now v ≡ replicate 16 (pos 0)) ⌝ }
     ensures { λ _. ⌜ now (v .exit) ≡ columnSums (now (a .entry)) r m own (now (x .entry)) n ⌝ }
 {
-    for k in 0..n {
-        v[k] = column_sum(a, r, m, own, x, n, k);
-    }
+    rest_sums(a, r, m, x, n, v);
+    add_row(own, x, m * n, n, v);
 }
 
 // Row m of a matrix, its diagonal own, times the sums v, where w stands in column m.

@@ -7,7 +7,7 @@ use mir.Val.{toZ, ofZ}
 use Rattle.whole.specs.Diff.{Within}
 use Rattle.whole.specs.Machine.{fits, reads, back, within--, within-*}
 use Rattle.rules.specs.Numbers.{at}
-use Rattle.joint.specs.Sums.{jointSum, mostOwn, own-first}
+use Rattle.joint.specs.Sums.{mostOwn, own-first}
 use Rattle.joint.proofs.sums.joint_sum.Statement.{statement}
 use Rattle.joint.proofs.sums.joint_sum.Tie as tie
 

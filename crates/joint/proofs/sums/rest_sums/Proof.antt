@@ -1,64 +1,41 @@
--- The first k sums stand in the array, the rest of it is 0.
-use mathlib.Core.Path.{_≡_, _∙_}
-use Prim.Native.Nat.{_-_, _≤_}
-use native.Mathlib.Numerals.{add-one}
+-- The rows above, then the rows below (`rest-rows`).
+use mathlib.Core.Path.{_∙_}
 use native.Mathlib.Omega.{arith}
-use lib.IntN.{pos}
-use lib.ListN.{replicate}
-use mir.Syntax.{w64}
-use Rattle.whole.specs.Machine.{back}
-use Rattle.rules.specs.Stages.{fill}
-use Rattle.joint.specs.Sums.{entriesSum, inColumn, restSums}
+use Rattle.joint.specs.Sums.{above, below, rest-rows}
 use Rattle.joint.proofs.sums.rest_sums.Statement.{statement}
 use Rattle.joint.proofs.sums.rest_sums.Tie as tie
 
-abbrev Inv-loop : tie.InvT-loop
-Inv-loop a r m x n v₀ k₀ v k = (k ≤ n) × (v ≡ fill k (λ i. entriesSum a r m (inColumn x n i)) (replicate 16 (pos 0)))
+add-rows-requires : tie.Need-add-rows-requires
+add-rows-requires c κs = let s = c .before in rw (s .pre .3) (above (s .pre .0) (s .pre .1) (s .pre .2))
 
-abbrev μ-loop : tie.MeasureT-loop
-μ-loop a r m x n v₀ k₀ v k = n - k
+add-add-rows : tie.Need-add-add-rows
+add-add-rows c = let h = c .before .before .pre .0 .room in omega arith
 
-loop-holds : tie.Need-loop-holds Inv-loop μ-loop
-unfolding fill
-loop-holds c = (omega arith, c .pre .3)
+add-add-rows-2 : tie.Need-add-add-rows-2
+add-add-rows-2 c = let h = c .before .before .pre .0 .right in omega arith
 
-entry-sum-requires : tie.Need-entry-sum-requires Inv-loop μ-loop
-entry-sum-requires c κs = let s = c .before .before in (s .pre .0, s .pre .1, c .loop-test .taken, s .pre .2)
+mul-add-rows : tie.Need-mul-add-rows
+mul-add-rows c = let s = c .before .before in let h = below (s .pre .0) (s .pre .1) (s .pre .2) .places in omega arith
 
-mul-t10 : tie.Need-mul-t10 Inv-loop μ-loop
-mul-t10 c = omega arith
+add-rows-requires-2 : tie.Need-add-rows-requires-2
+add-rows-requires-2 c κs =
+    let r = c .before in
+    let s = r .before .before in
+    rw (r .add-rows .ensures, s .pre .3) (below (s .pre .0) (s .pre .1) (s .pre .2))
 
-element-set-from-v : tie.Need-element-set-from-v Inv-loop μ-loop
-element-set-from-v c = omega arith
-
-add-k : tie.Need-add-k Inv-loop μ-loop
-add-k c = omega arith
-
-loop-less : tie.Need-loop-less Inv-loop μ-loop
-loop-less c = omega arith
-
-loop-again : tie.Need-loop-again Inv-loop μ-loop
-unfolding fill
-loop-again c = let l = c .before .before .loop in (omega arith, rw (add-one, back w64 _ (c .entry-sum .ok), c .entry-sum .ensures, l .inv .1))
-
-returns : tie.Need-returns Inv-loop μ-loop
-unfolding restSums
+returns : tie.Need-returns
 returns c =
-    let l = c .before .loop in
-    let e : l .k ≡ c .before .before .args .n = omega arith in
-    l .inv .1 ∙ rw e
+    let r = c .before .before in
+    let s = r .before .before in
+    c .add-rows2 .ensures ∙ rw (r .add-rows .ensures, s .pre .3) (rest-rows (s .pre .0) (s .pre .1) (s .pre .2))
 
 pub rest-sums-spec : {M : Type 1} → statement M
 rest-sums-spec =
     tie.close
     (tie.spec
-    Inv-loop
-    μ-loop
-    loop-holds
-    entry-sum-requires
-    mul-t10
-    element-set-from-v
-    add-k
-    loop-less
-    loop-again
+    add-rows-requires
+    add-add-rows
+    add-add-rows-2
+    mul-add-rows
+    add-rows-requires-2
     returns)
