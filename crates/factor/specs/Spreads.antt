@@ -2,7 +2,7 @@
 use mathlib.Core.Bool.{Bool, true, false, cond}
 use mathlib.Core.List.{List}
 use mathlib.Core.Logic.{_≢_}
-use mathlib.Core.Path.{_≡_, refl, sym, ap, _∙_}
+use mathlib.Core.Path.{_≡_, refl, sym, _∙_}
 use Prim.Native.Nat.{ℕ, zero, suc, _+_, _*_, _≤_, _<_}
 use native.Mathlib.Decide.{ℕ-discrete}
 use native.Mathlib.Omega.{arith}
@@ -33,6 +33,10 @@ movedBy true n p x = putBack n p x
 -- a line is the n numbers from place k on, s apart: it lies inside a block, and its numbers are moved
 abbrev pub LineIn : ℕ → ℕ → ℕ → List ℤ → Type 0
 LineIn n k s x = (m : ℕ) → m < n → k + m * s < length x
+
+-- from a copy v of it, or from itself
+unfoldable pub movedFrom : Bool → ℕ → (ℕ → ℕ) → List ℤ → ℕ → ℕ → List ℤ → List ℤ
+movedFrom back n p v k s x = spread n (λ m. k + toOf back p m * s) (λ m. at v (fromOf back p m)) x
 
 unfoldable pub movedLine : Bool → ℕ → (ℕ → ℕ) → ℕ → ℕ → List ℤ → List ℤ
 movedLine back n p k s x = spread n (λ m. k + toOf back p m * s) (λ m. at x (k + fromOf back p m * s)) x
@@ -76,10 +80,9 @@ moved-spread true zero p x = refl
 moved-spread true (suc n) p x = rw (moved-spread true n p x)
 
 -- a line that is the whole front of a block
-pub line-moved : (back : Bool) (n : ℕ) (p : ℕ → ℕ) (x : List ℤ) → movedLine back n p 0 1 x ≡ movedBy back n p x
-unfolding movedLine
-line-moved back n p x =
-    spread-same n _ _ _ _ x (λ m l. front (toOf back p m)) (λ m l. ap (at x) (front (fromOf back p m))) ∙ sym (moved-spread back n p x)
+pub front-moved : (back : Bool) (n : ℕ) (p : ℕ → ℕ) (x : List ℤ) → movedFrom back n p x 0 1 x ≡ movedBy back n p x
+unfolding movedFrom
+front-moved back n p x = spread-same n _ _ _ _ x (λ m l. front (toOf back p m)) (λ m l. refl) ∙ sym (moved-spread back n p x)
   where
     front : (m : ℕ) → 0 + m * 1 ≡ m
     front m = omega arith
@@ -96,8 +99,8 @@ from-permutes false h = h
 -- a line moved through a copy of it
 pub moved-aside : (back : Bool) {n : ℕ} {p : ℕ → ℕ} (k s : ℕ) (x : List ℤ) {v : List ℤ} → n ≤ mostOrder → Permutes n p →
     v ≡ fill n (λ m. at x (k + m * s)) (replicate 16 (pos 0)) →
-    spread n (λ m. k + toOf back p m * s) (λ m. at v (fromOf back p m)) x ≡ movedLine back n p k s x
-unfolding movedLine
+    movedFrom back n p v k s x ≡ movedLine back n p k s x
+unfolding movedFrom movedLine
 moved-aside back {n} k s x few h e =
     spread-same n _ _ _ _ x (λ m l. refl)
     (λ m l. rw e (fill-at n _ (replicate 16 (pos 0)) _ (from-permutes back h .below m l) few))

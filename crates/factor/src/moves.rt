@@ -7,7 +7,7 @@ ghost use lib.ListN.{replicate};
 ghost use Rattle.rules.specs.Numbers.{mostOrder, at};
 ghost use Rattle.rules.specs.Stages.{fill};
 ghost use Rattle.factor.specs.Lies.{Moves, placeAt};
-ghost use Rattle.factor.specs.Spreads.{LineIn, movedLine};
+ghost use Rattle.factor.specs.Spreads.{LineIn, movedFrom, movedLine};
 use crate::Spot;
 use sheet::places::count_at;
 
@@ -33,18 +33,35 @@ fn either(first: bool, a: usize, b: usize) -> usize
     b
 }
 
-// Applied, place m takes the number of place p(m); back, the number of m goes to p(m).
-pub fn move_line(sheet: &[i32], f: Spot, back: bool, x: &mut [i32], k: usize, s: usize)
+// A line from a copy of it: applied, place m takes the number of place p(m); back, the number of m goes to p(m).
+pub fn move_from(
+    sheet: &[i32],
+    f: Spot,
+    back: bool,
+    old: &[i32; 16],
+    x: &mut [i32],
+    k: usize,
+    s: usize,
+)
     requires { ⌜ Moves (now sheet) f × LineIn (f .order) k s (now x) ⌝ }
-    ensures { λ _. ⌜ now (x .exit) ≡ movedLine back (f .order) (placeAt (now (sheet .entry)) f) k s (now (x .entry)) ⌝ }
+    ensures { λ _. ⌜ now (x .exit) ≡ movedFrom back (f .order) (placeAt (now (sheet .entry)) f) (now (old .entry)) k s (now (x .entry)) ⌝ }
 {
     let n = f.order;
     let places = f.signs;
-    let old = line_of(x, n, k, s);
     for m in 0..n {
         let p = count_at(sheet, places + m);
         let to = either(back, p, m);
         let from = either(back, m, p);
         x[k + to * s] = old[from];
     }
+}
+
+// A line in place, through a copy of it.
+pub fn move_line(sheet: &[i32], f: Spot, back: bool, x: &mut [i32], k: usize, s: usize)
+    requires { ⌜ Moves (now sheet) f × LineIn (f .order) k s (now x) ⌝ }
+    ensures { λ _. ⌜ now (x .exit) ≡ movedLine back (f .order) (placeAt (now (sheet .entry)) f) k s (now (x .entry)) ⌝ }
+{
+    let n = f.order;
+    let old = line_of(x, n, k, s);
+    move_from(sheet, f, back, &old, x, k, s);
 }

@@ -14,7 +14,7 @@ use crate::steps::unweigh;
 use crate::steps::weigh;
 use factor::Way;
 use factor::is_move;
-use factor::moves::move_line;
+use factor::moves::move_from;
 use factor::spot_at;
 
 // Applied, or on allowances.
@@ -25,7 +25,7 @@ pub fn take_factor(way: Way, sheet: &[i32], n: usize, i: usize, x: [i32; 16]) ->
     let f = spot_at(sheet, n, i);
     if is_move(f) {
         let mut y = x;
-        move_line(sheet, f, false, &mut y, 0, 1);
+        move_from(sheet, f, false, &x, &mut y, 0, 1);
         return Stepped { ok: true, block: y };
     }
     match way {
@@ -42,7 +42,7 @@ pub fn undo_factor(sheet: &[i32], n: usize, i: usize, y: [i32; 16]) -> Stepped
     let f = spot_at(sheet, n, i);
     if is_move(f) {
         let mut x = y;
-        move_line(sheet, f, true, &mut x, 0, 1);
+        move_from(sheet, f, true, &y, &mut x, 0, 1);
         return Stepped { ok: true, block: x };
     }
     unweigh(sheet, f, y)

@@ -10,14 +10,14 @@ use Rattle.factor.specs.Ways.{limitOf, takenBy}
 use Rattle.factor.specs.Spots.{spotBy, spotAt}
 use Rattle.factor.specs.Reach.{numbers-fill}
 use Rattle.factor.specs.Steps.{step-moves}
-use Rattle.factor.specs.Spreads.{movedBy, line-moved}
+use Rattle.factor.specs.Spreads.{movedBy, front-moved}
 use Rattle.factor.specs.Lies.{lies, moves, kind-yes, kind-no}
 use Rattle.line.specs.Links.{permute-is, weigh-is, allow-is}
 use borrow.Author.Needs.{needs}
 use Rattle.line.proofs.stages.take_factor.Statement.{statement}
 use Rattle.line.proofs.stages.take_factor.Tie as tie
 
-len : (s : tie.Start) → length (s .args .x) ≡ 16
+len : (s : tie.Start) → length (s .args .t5) ≡ 16
 len s = search needs
 
 yes-kind : (c : tie.Then1) → kindOf (count (c .before .before .before .args .sheet .now) (c .before .before .before .args .i)) ≡ Permutation
@@ -32,13 +32,13 @@ spot-at-requires c κs = search needs
 is-move-requires : tie.Need-is-move-requires
 is-move-requires c κs = search needs
 
-slice-aggregate-move-line : tie.Need-slice-aggregate-move-line
-slice-aggregate-move-line c = search needs
+slice-aggregate-move-from : tie.Need-slice-aggregate-move-from
+slice-aggregate-move-from c = search needs
 
-move-line-requires : tie.Need-move-line-requires
+move-from-requires : tie.Need-move-from-requires
 unfolding spotAt spotBy
-move-line-requires c κs =
-    let k = c .before in
+move-from-requires c κs =
+    let k = c .before .before in
     let a = k .before .before in
     let s = a .before in
     let o = s .pre .1 in
@@ -47,10 +47,10 @@ move-line-requires c κs =
 returns : tie.Need-returns
 unfolding spotAt spotBy movedBy
 returns c =
-    let k = c .before .before .before in
+    let k = c .before .before .before .before in
     let a = k .before .before in
     let s = a .before in
-    step-moves (c .before .move-line .ensures ∙ line-moved _ _ _ _ ∙ rw (a .spot-at .ensures)) (permute-is _ _ _ (yes-kind k) (s .args .way) _)
+    step-moves (c .before .move-from .ensures ∙ front-moved _ _ _ _ ∙ rw (a .spot-at .ensures)) (permute-is _ _ _ (yes-kind k) (s .args .way) _)
     (numbers-fill (s .args .n) _ (s .pre .3) (λ e. s .pre .3 .small _))
 
 enum-told : tie.Need-enum-told
@@ -69,7 +69,7 @@ returns-2 c =
     let e = c .before .before .before in
     let a = e .before .before in
     let s = a .before in
-    rw (c .before .enum-told .given .1) (rw (a .spot-at .ensures, weigh-is _ _ _ (s .pre .2) (no-kind e) (s .args .x)) at (c .weigh .ensures))
+    rw (c .before .enum-told .given .1) (rw (a .spot-at .ensures, weigh-is _ _ _ (s .pre .2) (no-kind e) (s .args .t5)) at (c .weigh .ensures))
 
 enum-told-2 : tie.Need-enum-told-2
 enum-told-2 c = search needs
@@ -87,7 +87,7 @@ returns-3 c =
     let e = c .before .before .before in
     let a = e .before .before in
     let s = a .before in
-    rw (c .before .enum-told2 .given .1) (rw (a .spot-at .ensures, allow-is _ _ _ (s .pre .2) (no-kind e) (s .args .x)) at (c .allow-weights .ensures))
+    rw (c .before .enum-told2 .given .1) (rw (a .spot-at .ensures, allow-is _ _ _ (s .pre .2) (no-kind e) (s .args .t5)) at (c .allow-weights .ensures))
 
 pub take-factor-spec : {M : Type 1} → statement M
 take-factor-spec =
@@ -95,8 +95,8 @@ take-factor-spec =
     (tie.spec
     spot-at-requires
     is-move-requires
-    slice-aggregate-move-line
-    move-line-requires
+    slice-aggregate-move-from
+    move-from-requires
     returns
     enum-told
     weigh-requires
