@@ -31,14 +31,15 @@ typedef struct answer block_call(const int32_t *col, size_t cn, const int32_t *r
 				 int32_t *y, size_t yn);
 block_call bench_rectangle_forward, bench_rectangle_inverse;
 struct answer bench_rectangle_allowance(const int32_t *col, size_t cn, const int32_t *row, size_t rn, int32_t *y, size_t yn);
-block_call twin2_forward, twin2_inverse;	// separable sums
-block_call plain2_forward, plain2_inverse;	// the double sum as document 01 prints it
+block_call twin2_forward, twin2_inverse;   // separable sums
+block_call plain2_forward, plain2_inverse; // the double sum as document 01 prints it
 
 // Strips: blocks end to end, and a byte for each.
-typedef struct answer line_strip(const int32_t *s, size_t sn, const int32_t *x, size_t xn, int32_t *y, size_t yn, uint8_t *bytes, size_t bn);
+typedef struct answer line_strip(const int32_t *s, size_t sn, const int32_t *x, size_t xn, int32_t *y, size_t yn, uint8_t *bytes,
+				 size_t bn);
 line_strip bench_strip_forward, bench_strip_inverse, twin_strip_forward, twin_strip_inverse;
-typedef struct answer block_strip(const int32_t *col, size_t cn, const int32_t *row, size_t rn, const int32_t *x, size_t xn, int32_t *y,
-				  size_t yn, uint8_t *bytes, size_t bn);
+typedef struct answer block_strip(const int32_t *col, size_t cn, const int32_t *row, size_t rn, const int32_t *x, size_t xn,
+				  int32_t *y, size_t yn, uint8_t *bytes, size_t bn);
 block_strip bench_rectangle_strip_forward, bench_rectangle_strip_inverse, twin2_strip_forward, twin2_strip_inverse;
 struct answer twin_lengths(size_t n, size_t xn, size_t yn, size_t bn); // 10 of a strip
 

@@ -18,16 +18,16 @@ c() { # WORDS: the kit's clang over C
     -isystem "/usr/include/$(gcc -dumpmachine)"
 }
 
-# The loader binds memcpy and memset before main: if it did so at their first call, a stack that is measured would be the loader's.
+# The loader binds memcpy and memset before main: if it did so at their first call, a measured stack would be the loader's.
 program() { # NAME: target/bench/NAME, of bench/NAME.c, the sheets, the twins and the archive
   local s objects=()
   for s in "$1" sheets "${twins[@]}"; do
     c "${x86[@]}" -c "bench/$s.c" -o "$room/$s.o"
     objects+=("$room/$s.o")
   done
-  "$tools/bin/ld.lld" -pie -z now -dynamic-linker "$lib/ld-linux-x86-64.so.2" -rpath "$lib" -o "$room/$1" "$lib/Scrt1.o" "$lib/crti.o" \
-    "$lib/crtbeginS.o" "${objects[@]}" target/staticlib/libbench.a "$lib/libc.so.6" "$lib/libc_nonshared.a" "$lib/libgcc.a" \
-    "$lib/ld-linux-x86-64.so.2" "$lib/crtendS.o" "$lib/crtn.o"
+  "$tools/bin/ld.lld" -pie -z now -dynamic-linker "$lib/ld-linux-x86-64.so.2" -rpath "$lib" -o "$room/$1" \
+    "$lib/Scrt1.o" "$lib/crti.o" "$lib/crtbeginS.o" "${objects[@]}" target/staticlib/libbench.a \
+    "$lib/libc.so.6" "$lib/libc_nonshared.a" "$lib/libgcc.a" "$lib/ld-linux-x86-64.so.2" "$lib/crtendS.o" "$lib/crtn.o"
 }
 
 start() { # NAME WORDS: that program, under the kit's emulator where the machine needs it

@@ -23,7 +23,8 @@ struct task {
 	const int32_t *x; // the blocks, end to end
 };
 
-static struct answer ask(struct call c, const struct sheet *col, const struct sheet *row, const int32_t *x, int32_t *y, size_t size)
+static struct answer ask(struct call c, const struct sheet *col, const struct sheet *row, const int32_t *x, int32_t *y,
+			 size_t size)
 {
 	if (c.line)
 		return c.line(col->at, col->len, x, size, y, size);
@@ -39,7 +40,8 @@ static void fail(const struct task *t, const char *what, size_t k)
 }
 
 // One answer and one output: a refused call leaves the output as it was.
-static struct answer same(const struct task *t, const struct sheet *col, const struct sheet *row, const int32_t *x, size_t k, int32_t *out)
+static struct answer same(const struct task *t, const struct sheet *col, const struct sheet *row, const int32_t *x, size_t k,
+			  int32_t *out)
 {
 	int32_t y[256], z[256];
 	memset(y, 0x5a, sizeof y);
@@ -142,7 +144,8 @@ static void time_task(const struct task *t, int rounds, int32_t *y)
 }
 
 // A recipe in both directions: the inverse is asked for what the forward run gave.
-static void both(const char *recipe, const struct sheet *col, const struct sheet *row, const struct call calls[6], size_t many, int rounds)
+static void both(const char *recipe, const struct sheet *col, const struct sheet *row, const struct call calls[6], size_t many,
+		 int rounds)
 {
 	size_t size = (size_t)col->at[0] * (row ? (size_t)row->at[0] : 1), all = many * size;
 	int32_t *x = malloc(all * sizeof *x), *y = malloc(all * sizeof *y), *z = malloc(all * sizeof *z);
@@ -172,8 +175,8 @@ struct strip_call {
 	block_strip *block;
 };
 
-static struct answer ask_strip(struct strip_call c, const struct sheet *col, const struct sheet *row, const int32_t *x, int32_t *y,
-			       size_t all, uint8_t *bytes, size_t many)
+static struct answer ask_strip(struct strip_call c, const struct sheet *col, const struct sheet *row, const int32_t *x,
+			       int32_t *y, size_t all, uint8_t *bytes, size_t many)
 {
 	if (c.line)
 		return c.line(col->at, col->len, x, all, y, all, bytes, many);
@@ -181,8 +184,8 @@ static struct answer ask_strip(struct strip_call c, const struct sheet *col, con
 }
 
 // ns for each block of the best round.
-static double strip_time(struct strip_call c, const struct sheet *col, const struct sheet *row, const int32_t *x, int32_t *y, size_t all,
-			 uint8_t *bytes, size_t many, double best)
+static double strip_time(struct strip_call c, const struct sheet *col, const struct sheet *row, const int32_t *x, int32_t *y,
+			 size_t all, uint8_t *bytes, size_t many, double best)
 {
 	double start = seconds();
 	ask_strip(c, col, row, x, y, all, bytes, many);
@@ -190,9 +193,10 @@ static double strip_time(struct strip_call c, const struct sheet *col, const str
 	return ns < best ? ns : best;
 }
 
-// A strip of so many blocks, one in fifty of them beyond the bound: outputs and bytes are held to the twin's, then both are timed.
-static void strips(const char *recipe, const char *direction, const struct sheet *col, const struct sheet *row, struct strip_call library,
-		   struct strip_call twin, size_t many, int rounds)
+// A strip of so many blocks, one in fifty of them beyond the bound: outputs and bytes are held to the twin's, then both are
+// timed.
+static void strips(const char *recipe, const char *direction, const struct sheet *col, const struct sheet *row,
+		   struct strip_call library, struct strip_call twin, size_t many, int rounds)
 {
 	size_t size = (size_t)col->at[0] * (row ? (size_t)row->at[0] : 1), all = many * size;
 	int32_t *x = malloc(all * sizeof *x), *y = malloc(all * sizeof *y), *z = malloc(all * sizeof *z);
@@ -225,7 +229,8 @@ static void strips(const char *recipe, const char *direction, const struct sheet
 }
 
 // Both directions, at two lengths: the time for a block must not grow.
-static void all_strips(const char *recipe, const struct sheet *col, const struct sheet *row, const struct strip_call calls[4], int rounds)
+static void all_strips(const char *recipe, const struct sheet *col, const struct sheet *row, const struct strip_call calls[4],
+		       int rounds)
 {
 	for (size_t many = 1000; many <= 10000; many *= 10) {
 		strips(recipe, "forward", col, row, calls[0], calls[1], many, rounds);
@@ -237,7 +242,7 @@ static void time_strips(int rounds)
 {
 	static struct sheet a, b;
 	static const struct strip_call line[4] = {
-		{bench_strip_forward, 0}, {twin_strip_forward, 0}, {bench_strip_inverse, 0}, {twin_strip_inverse, 0}};
+	    {bench_strip_forward, 0}, {twin_strip_forward, 0}, {bench_strip_inverse, 0}, {twin_strip_inverse, 0}};
 	static const struct strip_call block[4] = {{0, bench_rectangle_strip_forward},
 						   {0, twin2_strip_forward},
 						   {0, bench_rectangle_strip_inverse},
@@ -261,7 +266,8 @@ int main(int argc, char **argv)
 		seed(strtoull(argv[2], NULL, 10));
 	printf("%-34s %-8s %10s %10s %8s\n", "recipe", "", "library ns", "C ns", "ratio");
 	static struct sheet a, b;
-	static const struct call line[6] = {{bench_forward, 0}, {twin_forward, 0}, {0, 0}, {bench_inverse, 0}, {twin_inverse, 0}, {0, 0}};
+	static const struct call line[6] = {{bench_forward, 0}, {twin_forward, 0}, {0, 0},
+					    {bench_inverse, 0}, {twin_inverse, 0}, {0, 0}};
 	a = built_in();
 	both("line of 4, built-in, 5 factors", &a, NULL, line, 20000, rounds);
 	a = made(16, "23412341", 2048);

@@ -1,5 +1,5 @@
-// Prints how deep the stack of each call of the library gets, and of its twin in C: the most over the cases below. It fails if the
-// cases leave out an answer that README.md names for a call. What is counted, and how, stands in docs/STACK.md.
+// Prints how deep the stack of each call of the library gets, and of its twin in C: the most over the cases below. It fails
+// if the cases leave out an answer that README.md names for a call. What is counted, and how, stands in docs/STACK.md.
 #include "sheets.h"
 #include <stdio.h>
 #include <stdlib.h>
@@ -23,8 +23,8 @@ enum { DEEPEST = 1 << 20, PUSHED = 4 * 8 };
 static _Alignas(16) uint8_t stack[DEEPEST];
 static uint8_t *const top = stack + DEEPEST;
 
-// Six words go in registers and four on the stack, as C passes them. A call with fewer does not look at the others. Nothing but the
-// four words is pushed before the call, so all that is written below them is the call's.
+// Six words go in registers and four on the stack, as C passes them. A call with fewer does not look at the others. Nothing
+// but the four words is pushed before the call, so all that is written below them is the call's.
 static struct result call_at_top(code *f, const struct slice a[5])
 {
 	struct result r;
@@ -56,8 +56,8 @@ static void deepen(size_t *most, size_t depth)
 		*most = depth;
 }
 
-// From the stack pointer at the call instruction down to the lowest byte that differs from the paint. A written byte that is equal
-// to one paint differs from the other. Only the upper part is painted, `reach` bytes, of which a call may use half.
+// From the stack pointer at the call instruction down to the lowest byte that differs from the paint. A written byte that is
+// equal to one paint differs from the other. Only the upper part is painted, `reach` bytes, of which a call may use half.
 static size_t depth_of(code *f, const struct slice a[5], size_t reach, struct result *r)
 {
 	static const uint8_t paints[2] = {0xa5, 0x5a};
@@ -80,7 +80,8 @@ static size_t depth_of(code *f, const struct slice a[5], size_t reach, struct re
 // ---- the calls that README.md names, and what the program prints
 
 // Numbers of answers as bits: 0 to 9, with 12 for a pair, and the others.
-enum { SHEET = 0x3ff, PAIR = SHEET | 1 << 12, LENGTH = 1 << 10, BOUND = 1 << 11, ALLOW = 1 << 13, SPELT = 1 << 14, ROOM = 1 << 15 };
+enum { SHEET = 0x3ff, PAIR = SHEET | 1 << 12, LENGTH = 1 << 10, BOUND = 1 << 11, ALLOW = 1 << 13, SPELT = 1 << 14,
+	ROOM = 1 << 15 };
 
 struct call {
 	const char *name;
@@ -120,8 +121,10 @@ static const struct call calls[CALLS] = {
 	[BLOCK + FORWARD] = {"rectangle::forward", PAIR | LENGTH | BOUND, CODE(bench_rectangle_forward), CODE(twin2_forward)},
 	[BLOCK + INVERSE] = {"rectangle::inverse", PAIR | LENGTH | BOUND, CODE(bench_rectangle_inverse), CODE(twin2_inverse)},
 	[BLOCK + ALLOWANCE] = {"rectangle::allowance", PAIR | LENGTH | ALLOW, CODE(bench_rectangle_allowance), NULL},
-	[BLOCK + STRIP_FORWARD] = {"strip::joint_forward", PAIR | LENGTH, CODE(bench_rectangle_strip_forward), CODE(twin2_strip_forward)},
-	[BLOCK + STRIP_INVERSE] = {"strip::joint_inverse", PAIR | LENGTH, CODE(bench_rectangle_strip_inverse), CODE(twin2_strip_inverse)},
+	[BLOCK + STRIP_FORWARD] = {"strip::joint_forward", PAIR | LENGTH, CODE(bench_rectangle_strip_forward),
+		CODE(twin2_strip_forward)},
+	[BLOCK + STRIP_INVERSE] = {"strip::joint_inverse", PAIR | LENGTH, CODE(bench_rectangle_strip_inverse),
+		CODE(twin2_strip_inverse)},
 	[TEXT] = {"session::text_of", SHEET | LENGTH | BOUND | ALLOW | SPELT | ROOM, CODE(bench_text_of), NULL},
 };
 

@@ -3,10 +3,7 @@
 #include <stdbool.h>
 #include <string.h>
 
-static struct answer refused(uint32_t number, uint32_t side, uint64_t place)
-{
-	return (struct answer){number, side, place};
-}
+static struct answer refused(uint32_t number, uint32_t side, uint64_t place) { return (struct answer){number, side, place}; }
 
 // 1 to 9, from the left, the first fault.
 struct answer twin_check(const int32_t *s, size_t len, uint32_t side)
@@ -138,10 +135,7 @@ static int64_t nudge_at(const struct spot *f, size_t n, size_t m, const int32_t 
 	}
 }
 
-static bool is_within(int64_t z)
-{
-	return z >= -SAMPLE && z <= SAMPLE;
-}
+static bool is_within(int64_t z) { return z >= -SAMPLE && z <= SAMPLE; }
 
 // Whether every number is in bound; y is the new block.
 static bool apply(const int32_t *at, size_t n, const int32_t *x, int32_t *y)
@@ -266,16 +260,19 @@ static inline struct answer strip(bool back, const int32_t *s, size_t sn, const 
 	if (a.number)
 		return a;
 	for (size_t k = 0; k < bn; k++)
-		bytes[k] = (uint8_t)(back ? inverse_block(s, x + k * n, y + k * n) : forward_block(s, x + k * n, y + k * n)).number;
+		bytes[k] =
+		    (uint8_t)(back ? inverse_block(s, x + k * n, y + k * n) : forward_block(s, x + k * n, y + k * n)).number;
 	return a;
 }
 
-struct answer twin_strip_forward(const int32_t *s, size_t sn, const int32_t *x, size_t xn, int32_t *y, size_t yn, uint8_t *bytes, size_t bn)
+struct answer twin_strip_forward(const int32_t *s, size_t sn, const int32_t *x, size_t xn, int32_t *y, size_t yn, uint8_t *bytes,
+				 size_t bn)
 {
 	return strip(false, s, sn, x, xn, y, yn, bytes, bn);
 }
 
-struct answer twin_strip_inverse(const int32_t *s, size_t sn, const int32_t *x, size_t xn, int32_t *y, size_t yn, uint8_t *bytes, size_t bn)
+struct answer twin_strip_inverse(const int32_t *s, size_t sn, const int32_t *x, size_t xn, int32_t *y, size_t yn, uint8_t *bytes,
+				 size_t bn)
 {
 	return strip(true, s, sn, x, xn, y, yn, bytes, bn);
 }

@@ -4,10 +4,7 @@
 #include <stdbool.h>
 #include <string.h>
 
-static struct answer refused(uint32_t number, uint32_t side, uint64_t place)
-{
-	return (struct answer){number, side, place};
-}
+static struct answer refused(uint32_t number, uint32_t side, uint64_t place) { return (struct answer){number, side, place}; }
 
 static size_t numbers(const int32_t *f, size_t n)
 {
@@ -18,10 +15,7 @@ static size_t numbers(const int32_t *f, size_t n)
 	}
 }
 
-static bool is_within(int64_t z)
-{
-	return z >= -SAMPLE && z <= SAMPLE;
-}
+static bool is_within(int64_t z) { return z >= -SAMPLE && z <= SAMPLE; }
 
 // A factor where it stands.
 struct spot {
@@ -197,7 +191,8 @@ static struct matrix matrix_of(const struct spot *f)
 	return a;
 }
 
-static int64_t double_sum(const struct matrix *a, size_t n1, const struct matrix *b, size_t n2, size_t i, size_t j, const int32_t *x)
+static int64_t double_sum(const struct matrix *a, size_t n1, const struct matrix *b, size_t n2, size_t i, size_t j,
+			  const int32_t *x)
 {
 	int64_t s = 0;
 	for (size_t l = 0; l < n1; l++)
@@ -314,25 +309,29 @@ static inline struct answer inverse_block(bool plain, const int32_t *col, const 
 	return refused(0, 0, 0);
 }
 
-struct answer twin2_forward(const int32_t *col, size_t cn, const int32_t *row, size_t rn, const int32_t *x, size_t xn, int32_t *y, size_t yn)
+struct answer twin2_forward(const int32_t *col, size_t cn, const int32_t *row, size_t rn, const int32_t *x, size_t xn, int32_t *y,
+			    size_t yn)
 {
 	struct answer a = check_run(col, cn, row, rn, xn, yn);
 	return a.number ? a : forward_block(false, col, row, x, y);
 }
 
-struct answer twin2_inverse(const int32_t *col, size_t cn, const int32_t *row, size_t rn, const int32_t *x, size_t xn, int32_t *y, size_t yn)
+struct answer twin2_inverse(const int32_t *col, size_t cn, const int32_t *row, size_t rn, const int32_t *x, size_t xn, int32_t *y,
+			    size_t yn)
 {
 	struct answer a = check_run(col, cn, row, rn, xn, yn);
 	return a.number ? a : inverse_block(false, col, row, x, y);
 }
 
-struct answer plain2_forward(const int32_t *col, size_t cn, const int32_t *row, size_t rn, const int32_t *x, size_t xn, int32_t *y, size_t yn)
+struct answer plain2_forward(const int32_t *col, size_t cn, const int32_t *row, size_t rn, const int32_t *x, size_t xn,
+			     int32_t *y, size_t yn)
 {
 	struct answer a = check_run(col, cn, row, rn, xn, yn);
 	return a.number ? a : forward_block(true, col, row, x, y);
 }
 
-struct answer plain2_inverse(const int32_t *col, size_t cn, const int32_t *row, size_t rn, const int32_t *x, size_t xn, int32_t *y, size_t yn)
+struct answer plain2_inverse(const int32_t *col, size_t cn, const int32_t *row, size_t rn, const int32_t *x, size_t xn,
+			     int32_t *y, size_t yn)
 {
 	struct answer a = check_run(col, cn, row, rn, xn, yn);
 	return a.number ? a : inverse_block(true, col, row, x, y);
@@ -340,8 +339,8 @@ struct answer plain2_inverse(const int32_t *col, size_t cn, const int32_t *row, 
 
 // ---- strips: the sheets are checked once
 
-static inline struct answer strip(bool back, const int32_t *col, size_t cn, const int32_t *row, size_t rn, const int32_t *x, size_t xn,
-				  int32_t *y, size_t yn, uint8_t *bytes, size_t bn)
+static inline struct answer strip(bool back, const int32_t *col, size_t cn, const int32_t *row, size_t rn, const int32_t *x,
+				  size_t xn, int32_t *y, size_t yn, uint8_t *bytes, size_t bn)
 {
 	struct answer a = check_pair(col, cn, row, rn);
 	if (a.number)
@@ -353,19 +352,20 @@ static inline struct answer strip(bool back, const int32_t *col, size_t cn, cons
 	for (size_t k = 0; k < bn; k++) {
 		const int32_t *from = x + k * n;
 		int32_t *to = y + k * n;
-		bytes[k] = (uint8_t)(back ? inverse_block(false, col, row, from, to) : forward_block(false, col, row, from, to)).number;
+		bytes[k] =
+		    (uint8_t)(back ? inverse_block(false, col, row, from, to) : forward_block(false, col, row, from, to)).number;
 	}
 	return a;
 }
 
-struct answer twin2_strip_forward(const int32_t *col, size_t cn, const int32_t *row, size_t rn, const int32_t *x, size_t xn, int32_t *y,
-				  size_t yn, uint8_t *bytes, size_t bn)
+struct answer twin2_strip_forward(const int32_t *col, size_t cn, const int32_t *row, size_t rn, const int32_t *x, size_t xn,
+				  int32_t *y, size_t yn, uint8_t *bytes, size_t bn)
 {
 	return strip(false, col, cn, row, rn, x, xn, y, yn, bytes, bn);
 }
 
-struct answer twin2_strip_inverse(const int32_t *col, size_t cn, const int32_t *row, size_t rn, const int32_t *x, size_t xn, int32_t *y,
-				  size_t yn, uint8_t *bytes, size_t bn)
+struct answer twin2_strip_inverse(const int32_t *col, size_t cn, const int32_t *row, size_t rn, const int32_t *x, size_t xn,
+				  int32_t *y, size_t yn, uint8_t *bytes, size_t bn)
 {
 	return strip(true, col, cn, row, rn, x, xn, y, yn, bytes, bn);
 }

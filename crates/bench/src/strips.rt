@@ -1,8 +1,8 @@
 // Strips of blocks.
-ghost use Rattle.rules.specs.Stages.{nearest};
-ghost use Rattle.rules.specs.Calls.{line, joint, forwardCall, inverseCall};
-ghost use Rattle.rules.specs.Strips.{GivesStrip, strip};
+ghost use Rattle.rules.specs.Calls.{line, joint};
+ghost use Rattle.rules.specs.Strips.{GivesStrip, forwardStrip, inverseStrip};
 use rules::Answer;
+use rules::Rule;
 
 #[no_mangle]
 pub extern "C" fn bench_strip_forward(
@@ -11,7 +11,8 @@ pub extern "C" fn bench_strip_forward(
     y: &mut [i32],
     bytes: &mut [u8],
 ) -> Answer
-    ensures { λ a. ⌜ GivesStrip a (now (y .exit)) (now (bytes .exit)) (strip (line (now (s .entry))) (forwardCall nearest (line (now (s .entry)))) (now (x .entry)) (now (y .entry)) (now (bytes .entry))) ⌝ }
+    ensures { λ a. ⌜ GivesStrip a (now (y .exit)) (now (bytes .exit))
+        (forwardStrip Rule.Nearest (line (now (s .entry))) (now (x .entry)) (now (y .entry)) (now (bytes .entry))) ⌝ }
 {
     strip::line_forward(s, x, y, bytes)
 }
@@ -23,7 +24,8 @@ pub extern "C" fn bench_strip_inverse(
     y: &mut [i32],
     bytes: &mut [u8],
 ) -> Answer
-    ensures { λ a. ⌜ GivesStrip a (now (y .exit)) (now (bytes .exit)) (strip (line (now (s .entry))) (inverseCall nearest (line (now (s .entry)))) (now (x .entry)) (now (y .entry)) (now (bytes .entry))) ⌝ }
+    ensures { λ a. ⌜ GivesStrip a (now (y .exit)) (now (bytes .exit))
+        (inverseStrip Rule.Nearest (line (now (s .entry))) (now (x .entry)) (now (y .entry)) (now (bytes .entry))) ⌝ }
 {
     strip::line_inverse(s, x, y, bytes)
 }
@@ -36,7 +38,9 @@ pub extern "C" fn bench_rectangle_strip_forward(
     y: &mut [i32],
     bytes: &mut [u8],
 ) -> Answer
-    ensures { λ a. ⌜ GivesStrip a (now (y .exit)) (now (bytes .exit)) (strip (joint (now (c .entry)) (now (r .entry))) (forwardCall nearest (joint (now (c .entry)) (now (r .entry)))) (now (x .entry)) (now (y .entry)) (now (bytes .entry))) ⌝ }
+    ensures { λ a. ⌜ GivesStrip a (now (y .exit)) (now (bytes .exit))
+        (forwardStrip Rule.Nearest (joint (now (c .entry)) (now (r .entry)))
+        (now (x .entry)) (now (y .entry)) (now (bytes .entry))) ⌝ }
 {
     strip::joint_forward(c, r, x, y, bytes)
 }
@@ -49,7 +53,9 @@ pub extern "C" fn bench_rectangle_strip_inverse(
     y: &mut [i32],
     bytes: &mut [u8],
 ) -> Answer
-    ensures { λ a. ⌜ GivesStrip a (now (y .exit)) (now (bytes .exit)) (strip (joint (now (c .entry)) (now (r .entry))) (inverseCall nearest (joint (now (c .entry)) (now (r .entry)))) (now (x .entry)) (now (y .entry)) (now (bytes .entry))) ⌝ }
+    ensures { λ a. ⌜ GivesStrip a (now (y .exit)) (now (bytes .exit))
+        (inverseStrip Rule.Nearest (joint (now (c .entry)) (now (r .entry)))
+        (now (x .entry)) (now (y .entry)) (now (bytes .entry))) ⌝ }
 {
     strip::joint_inverse(c, r, x, y, bytes)
 }

@@ -15,8 +15,8 @@ use Rattle.rules.specs.Numbers.{unit, mostEntry, mostAllowance, mostOrder, at}
 use Rattle.rules.specs.Stages.{fill}
 use Rattle.rules.specs.Laws.Lists.{length-fill, fill-at}
 use Rattle.factor.specs.declared.Row.{Row}
-use Rattle.factor.specs.Spots.{row, along}
-use Rattle.factor.specs.Reach.{Numbers, RowIn, along-small}
+use Rattle.factor.specs.Layouts.{row, along}
+use Rattle.factor.specs.SumBounds.{Bounded, RowIn, along-small}
 
 -- m entries from place p on
 pub record Entries (a : List ℤ) (p m : ℕ) : Type 0 where
@@ -25,11 +25,11 @@ pub record Entries (a : List ℤ) (p m : ℕ) : Type 0 where
   pub small : (j : ℕ) → j < m → Within mostEntry (at a (p + j))
 
 -- the magnitude of the number at a place
-abbrev pub sizeAt : List ℤ → ℕ → ℤ
-sizeAt a p = pos (natAbs (at a p))
+abbrev pub magnitudeAt : List ℤ → ℕ → ℤ
+magnitudeAt a p = pos (natAbs (at a p))
 
 unfoldable pub magnitudesOf : List ℤ → ℕ → ℕ → List ℤ
-magnitudesOf a p m = fill m (λ j. sizeAt a (p + j)) (replicate 16 (pos 0))
+magnitudesOf a p m = fill m (λ j. magnitudeAt a (p + j)) (replicate 16 (pos 0))
 
 -- every one of m numbers from place p on is a multiple of 4096
 unfoldable pub whole : List ℤ → ℕ → ℕ → Bool
@@ -41,7 +41,8 @@ pub whole-end : (a : List ℤ) (p m j : ℕ) → m ≤ j → whole a (p + j) (m 
 unfolding whole
 whole-end a p m j l = let e : m - j ≡ 0 = omega arith in rw e
 
-pub whole-on : (a : List ℤ) (p m j : ℕ) → j < m → eqb (natAbs (at a (p + j)) % unit) 0 ≡ true → whole a (p + j) (m - j) ≡ whole a (p + (j + 1)) (m - (j + 1))
+pub whole-on : (a : List ℤ) (p m j : ℕ) → j < m → eqb (natAbs (at a (p + j)) % unit) 0 ≡ true →
+    whole a (p + j) (m - j) ≡ whole a (p + (j + 1)) (m - (j + 1))
 unfolding whole
 whole-on a p m j l h =
     let e : m - j ≡ suc (m - (j + 1)) = omega arith in
@@ -71,23 +72,24 @@ module _ {s : List ℤ} {r : Row} {m : ℕ} (h : RowIn s mostOrder r m) where
   abbrev copy : List ℤ
   copy = magnitudesOf s (r .at) many
 
-  at-copy : (j : ℕ) → j < many → at copy j ≡ sizeAt s (r .at + j)
+  at-copy : (j : ℕ) → j < many → at copy j ≡ magnitudeAt s (r .at + j)
   unfolding magnitudesOf
   at-copy j l = fill-at many _ (replicate 16 (pos 0)) j l (let a = row-entries .few in omega arith)
 
   -- the copy is a row like the one it was made of
-  pub sizes-row : RowIn (magnitudesOf s (r .at) (r .left + r .right)) mostOrder (row 0 (r .left) (r .right)) m
+  pub magnitudes-row : RowIn (magnitudesOf s (r .at) (r .left + r .right)) mostOrder (row 0 (r .left) (r .right)) m
   unfolding magnitudesOf
-  sizes-row = record {
-    room = let a = row-entries .few in omega (arith, length-fill many (λ j. sizeAt s (r .at + j)) (replicate 16 (pos 0)));
+  magnitudes-row = record {
+    room = let a = row-entries .few in omega (arith, length-fill many (λ j. magnitudeAt s (r .at + j)) (replicate 16 (pos 0)));
     left = h .left;
     right = h .right;
     entries = λ j l. let e : 0 + j ≡ j = omega arith in rw (e, at-copy j l) (record { within = h .entries j l .within });
   }
 
-  pub sizes-along : (b : List ℤ) → along (at (magnitudesOf s (r .at) (r .left + r .right))) (row 0 (r .left) (r .right)) m b ≡ along (sizeAt s) r m b
+  pub magnitudes-along : (b : List ℤ) →
+      along (at (magnitudesOf s (r .at) (r .left + r .right))) (row 0 (r .left) (r .right)) m b ≡ along (magnitudeAt s) r m b
   unfolding along
-  sizes-along b =
+  magnitudes-along b =
       ap₂ _+ℤ_
       (sum-cong (r .left) _ _ (λ j l. let e : 0 + j ≡ j = omega arith in rw (e, at-copy j (omega arith))))
       (sum-cong (r .right) _ _
@@ -95,5 +97,6 @@ module _ {s : List ℤ} {r : Row} {m : ℕ} (h : RowIn s mostOrder r m) where
       let e : 0 + r .left + j ≡ r .left + j = omega arith in
       let q : r .at + (r .left + j) ≡ r .at + r .left + j = omega arith in rw (e, at-copy (r .left + j) (omega arith), q)))
 
-  pub sizes-small : {b : List ℤ} → Numbers mostAllowance b → Within (32 * (mostEntry * mostAllowance)) (along (sizeAt s) r m b)
-  sizes-small {b} k = rw (← sizes-along b) (along-small sizes-row k)
+  pub magnitudes-small : {b : List ℤ} → Bounded mostAllowance b →
+      Within (32 * (mostEntry * mostAllowance)) (along (magnitudeAt s) r m b)
+  magnitudes-small {b} k = rw (← magnitudes-along b) (along-small magnitudes-row k)

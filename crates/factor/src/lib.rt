@@ -6,26 +6,27 @@ ghost use mir.Val.{Fits};
 ghost use Rattle.rules.specs.Numbers.{mostOrder, count};
 ghost use Rattle.rules.specs.Sheets.{triangle};
 ghost use Rattle.rules.specs.Factors.{above};
-ghost use Rattle.rules.specs.Answers.{start};
 ghost use Rattle.laws.specs.Readers.{Seen};
-ghost use Rattle.laws.specs.Accepted.{Accepted, FactorRead};
-ghost use Rattle.factor.specs.Spots.{spot, spotAt, rowOf, placeOf, isMove};
+ghost use Rattle.laws.specs.Accepted.{FactorRead};
+ghost use Rattle.factor.specs.Layouts.{layout, layoutAt, rowOf, isMove};
+ghost use Rattle.factor.specs.UndoingOrder.{nthUndone};
 use rules::Item;
 use rules::Kind;
-use sheet::places::count_at;
-use sheet::places::kind_at;
-use sheet::places::next_factor;
+use sheet::factors::count_at;
+use sheet::factors::kind_at;
 
-pub mod answers; // 10: the lengths of lent slices
 pub mod block; // the block between the lent slices and the runs
 pub mod bounds; // stage 0
+pub mod lengths; // 10: the lengths of lent slices
 pub mod magnitudes; // what an allowance asks of entries
 pub mod moves; // permutations, in place
 pub mod rounding; // one element: rounding, sign, bound
+pub mod run; // which run it is, and how it ended
 pub mod sums; // sums of entries times numbers
 
-// Where the numbers of a factor stand: its kind, its order, its row if it is of kind 4, and the places of its first sign and entry.
-pub struct Spot {
+// Where the numbers of a factor stand: its kind, its order, its row if it is of kind 4, and the places of its first sign and
+// entry.
+pub struct Layout {
     pub kind: Kind,
     pub order: usize,
     pub row: usize,
@@ -40,18 +41,12 @@ pub struct Row {
     pub right: usize,
 }
 
-// What goes through the stages, first to last: the numbers of a block, or the allowances of its coefficients.
-pub enum Way {
-    Applied,
-    Allowed,
-}
-
 // A factor at i that has no row of its own: its signs follow the kind number.
-fn spot_without_row(kind: Kind, n: usize, i: usize) -> Spot
+fn layout_without_row(kind: Kind, n: usize, i: usize) -> Layout
     requires { ⌜ Fits w64 (i + 1 + n) ⌝ }
-    ensures { λ r. ⌜ r ≡ spot kind n 0 (i + 1) (i + 1 + n) ⌝ }
+    ensures { λ r. ⌜ r ≡ layout kind n 0 (i + 1) (i + 1 + n) ⌝ }
 {
-    Spot {
+    Layout {
         kind,
         order: n,
         row: 0,
@@ -61,12 +56,12 @@ fn spot_without_row(kind: Kind, n: usize, i: usize) -> Spot
 }
 
 // A factor of kind 4 at i: its signs follow its row.
-fn spot_with_row(sheet: &[i32], n: usize, i: usize) -> Spot
+fn layout_with_row(sheet: &[i32], n: usize, i: usize) -> Layout
     requires { ⌜ Fits w64 (i + 2 + n) × Seen (now sheet) (Item.Row n) (i + 1) ⌝ }
-    ensures { λ r. ⌜ r ≡ spot Kind.Single n (count (now (sheet .entry)) (i + 1)) (i + 2) (i + 2 + n) ⌝ }
+    ensures { λ r. ⌜ r ≡ layout Kind.Single n (count (now (sheet .entry)) (i + 1)) (i + 2) (i + 2 + n) ⌝ }
 {
     let row = count_at(sheet, i + 1);
-    Spot {
+    Layout {
         kind: Kind::Single,
         order: n,
         row,
@@ -75,29 +70,17 @@ fn spot_with_row(sheet: &[i32], n: usize, i: usize) -> Spot
     }
 }
 
-// Where factor f starts: the factors before it are passed one by one, since only a kind tells how long its factor is.
-pub fn start_of(sheet: &[i32], n: usize, f: usize) -> usize
-    requires { ⌜ Accepted (now sheet) × (n ≡ count (now sheet) 0) × (f < count (now sheet) 1) ⌝ }
-    ensures { λ r. ⌜ r ≡ start (now (sheet .entry)) f ⌝ }
-{
-    let mut i = 2;
-    for k in 0..f {
-        i = next_factor(sheet, n, i);
-    }
-    i
-}
-
 // The factor whose kind number stands at i.
-pub fn spot_at(sheet: &[i32], n: usize, i: usize) -> Spot
+pub fn layout_at(sheet: &[i32], n: usize, i: usize) -> Layout
     requires { ⌜ FactorRead (now sheet) n i ⌝ }
-    ensures { λ r. ⌜ r ≡ spotAt (now (sheet .entry)) n i ⌝ }
+    ensures { λ r. ⌜ r ≡ layoutAt (now (sheet .entry)) n i ⌝ }
 {
     let kind = kind_at(sheet, i);
     match kind {
-        Kind::Permutation => return spot_without_row(kind, n, i),
-        Kind::Lower => return spot_without_row(kind, n, i),
-        Kind::Upper => return spot_without_row(kind, n, i),
-        Kind::Single => return spot_with_row(sheet, n, i),
+        Kind::Permutation => return layout_without_row(kind, n, i),
+        Kind::Lower => return layout_without_row(kind, n, i),
+        Kind::Upper => return layout_without_row(kind, n, i),
+        Kind::Single => return layout_with_row(sheet, n, i),
     }
 }
 
@@ -118,7 +101,7 @@ fn before_upper(n: usize, m: usize) -> usize
 }
 
 // The entries of row m.
-pub fn row_of(f: Spot, m: usize) -> Row
+pub fn row_of(f: Layout, m: usize) -> Row
     requires { ⌜ (m < f .order) × (f .order ≤ mostOrder) × Fits w64 (rowOf f m .at) ⌝ }
     ensures { λ r. ⌜ r ≡ rowOf f m ⌝ }
 {
@@ -164,9 +147,9 @@ pub fn row_of(f: Spot, m: usize) -> Row
 }
 
 // The element that is recovered in turn t: from the top, from the bottom, or round from the row after r, so that r is last.
-pub fn place_of(f: Spot, t: usize) -> usize
+pub fn nth_undone(f: Layout, t: usize) -> usize
     requires { ⌜ (t < f .order) × (f .row < f .order) ⌝ }
-    ensures { λ r. ⌜ r ≡ placeOf (f .kind) (f .order) (f .row) t ⌝ }
+    ensures { λ r. ⌜ r ≡ nthUndone (f .kind) (f .order) (f .row) t ⌝ }
 {
     let kind = f.kind;
     let n = f.order;
@@ -185,7 +168,7 @@ pub fn place_of(f: Spot, t: usize) -> usize
 }
 
 // Whether a factor only moves numbers.
-pub fn is_move(f: Spot) -> bool
+pub fn is_move(f: Layout) -> bool
     ensures { λ r. ⌜ r ≡ isMove (f .kind) ⌝ }
 {
     let kind = f.kind;

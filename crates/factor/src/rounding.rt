@@ -5,13 +5,37 @@ ghost use lib.IntN.{pos, natAbs, _+ℤ_, _-ℤ_, _*ℤ_};
 ghost use lib.Signed.{nonNeg, shrZ};
 ghost use mir.Syntax.{w64};
 ghost use mir.Val.{SFits};
+ghost use Rattle.rules.specs.Numbers.{unit, unit²};
+ghost use Rattle.rules.specs.Stages.{R, share};
+use rules::Rule;
 
 // "R(s) is the floor of (s + 2048)/4096": a shift to the right is a floor, also below zero, so -2048 gives 0 and -2049 gives -1.
-pub fn round_line(s: i64) -> i64
-    requires { ⌜ SFits w64 (s +ℤ pos 2048) × SFits w64 (shrZ (s +ℤ pos 2048) 4096) ⌝ }
-    ensures { λ r. ⌜ r ≡ shrZ (s +ℤ pos 2048) 4096 ⌝ }
+pub fn round_line(rule: Rule, s: i64) -> i64
+    requires { ⌜ SFits w64 (s +ℤ pos 2048) × SFits w64 (R rule unit s) ⌝ }
+    ensures { λ r. ⌜ r ≡ R rule unit s ⌝ }
 {
-    (s + 2048) >> 12
+    match rule {
+        Rule::Nearest => return (s + 2048) >> 12,
+    }
+}
+
+// "R2(s) is the floor of (s + 8388608)/16777216", also below zero: -8388608 gives 0 and -8388609 gives -1.
+pub fn round_joint(rule: Rule, s: i64) -> i64
+    requires { ⌜ SFits w64 (s +ℤ pos 8388608) × SFits w64 (R rule unit² s) ⌝ }
+    ensures { λ r. ⌜ r ≡ R rule unit² s ⌝ }
+{
+    match rule {
+        Rule::Nearest => return (s + 8388608) >> 24,
+    }
+}
+
+// What one rounding adds to an allowance, counted in 1/4096.
+pub fn share_of(rule: Rule) -> i64
+    ensures { λ r. ⌜ r ≡ pos (share rule) ⌝ }
+{
+    match rule {
+        Rule::Nearest => return 2048,
+    }
 }
 
 // The quotient s / 4096 upward, for an allowance.

@@ -7,12 +7,12 @@ ghost use mir.Syntax.{w64};
 ghost use mir.Val.{SFits};
 ghost use Rattle.whole.specs.Sum.{sum};
 ghost use Rattle.rules.specs.Numbers.{mostAllowance, at};
-ghost use Rattle.factor.specs.Spots.{along};
-ghost use Rattle.factor.specs.Reach.{Terms, RowIn, Numbers};
+ghost use Rattle.factor.specs.Layouts.{along};
+ghost use Rattle.factor.specs.SumBounds.{Terms, RowIn, Bounded};
 use crate::Row;
 
 // One term more.
-fn with_term(sum: i64, a: i32, x: i32) -> i64
+pub fn with_term(sum: i64, a: i32, x: i32) -> i64
     requires { ⌜ SFits w64 a × SFits w64 x × SFits w64 (a *ℤ x) × SFits w64 (sum +ℤ (a *ℤ x)) ⌝ }
     ensures { λ r. ⌜ r ≡ sum +ℤ (a *ℤ x) ⌝ }
 {
@@ -21,7 +21,7 @@ fn with_term(sum: i64, a: i32, x: i32) -> i64
 
 // m entries, each times the number that stands across from it. The loop counts from 0 over two parts: with other places
 // the compiler takes four products at a time, which the baseline machine has no instruction for.
-fn run_sum(a: &[i32], x: &[i32], m: usize) -> i64
+fn products_sum(a: &[i32], x: &[i32], m: usize) -> i64
     requires { ⌜ Terms (now a) (now x) m ⌝ }
     ensures { λ r. ⌜ r ≡ sum m (λ j. at (now (a .entry)) j *ℤ at (now (x .entry)) j) ⌝ }
 {
@@ -33,21 +33,21 @@ fn run_sum(a: &[i32], x: &[i32], m: usize) -> i64
 }
 
 // The same, from a column on.
-fn run_sum_from(a: &[i32], x: &[i32], column: usize, m: usize) -> i64
+fn products_sum_from(a: &[i32], x: &[i32], column: usize, m: usize) -> i64
     requires { ⌜ (column ≤ length (now x)) × Terms (now a) (drop column (now x)) m ⌝ }
     ensures { λ r. ⌜ r ≡ sum m (λ j. at (now (a .entry)) j *ℤ at (drop column (now (x .entry))) j) ⌝ }
 {
-    run_sum(a, &x[column..], m)
+    products_sum(a, &x[column..], m)
 }
 
 // The entries of row m, each times the number of its column.
 pub fn row_sum(sheet: &[i32], r: Row, m: usize, x: &[i32; 16]) -> i64
-    requires { ⌜ RowIn (now sheet) 16 r m × Numbers mostAllowance (now x) ⌝ }
+    requires { ⌜ RowIn (now sheet) 16 r m × Bounded mostAllowance (now x) ⌝ }
     ensures { λ s. ⌜ s ≡ along (at (now (sheet .entry))) r m (now (x .entry)) ⌝ }
 {
     let at = r.at;
     let left = r.left;
     let right = r.right;
     let after = at + left;
-    run_sum(&sheet[at..], x, left) + run_sum_from(&sheet[after..], x, m + 1, right)
+    products_sum(&sheet[at..], x, left) + products_sum_from(&sheet[after..], x, m + 1, right)
 }

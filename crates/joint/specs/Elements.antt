@@ -1,91 +1,107 @@
 -- ONE ELEMENT OF A PAIR OF FACTORS as the code makes it: applied and undone; and how large it becomes.
 -- d is the sign of the element's row, v the sums of that row over the columns, x the element's number.
 use mathlib.Core.List.{List}
-use Prim.Native.Nat.{ℕ, _+_, _*_, _/_, _%_, _<_}
+use mathlib.Core.Path.{_≡_}
+use Prim.Native.Nat.{ℕ, _+_, _*_, _/_, _%_, _≤_, _<_}
 use native.Mathlib.Omega.{arith}
 use lib.IntN.{ℤ, pos, _+ℤ_, _-ℤ_, _*ℤ_}
+use lib.ListN.{replicate}
 use Rattle.whole.specs.Diff.{Within}
 use Rattle.whole.specs.Laws.{Sign}
-use Rattle.whole.specs.Machine.{within-le, within-+, within-*, within-pos, within-shr, sign-within}
+use Rattle.whole.specs.Machine.{within-le, within-*, within-pos, sign-within}
 use Rattle.rules.specs.Numbers.{unit, unit², mostEntry, mostAllowance, bound, at}
-use Rattle.rules.specs.Stages.{nearest, R}
-use Rattle.factor.specs.declared.Spot.{Spot}
-use Rattle.factor.specs.Spots.{rowOf}
-use Rattle.factor.specs.Reach.{Numbers, numbers-le}
-use Rattle.factor.specs.Lies.{Lies, row-wide}
-use Rattle.joint.specs.Sums.{across, columnSums, restSums, jointSum, mostColumn, Band, columns-small, joint-small, across-small}
+use Rattle.rules.specs.declared.Rule.{Rule}
+use Rattle.rules.specs.Stages.{R}
+use Rattle.factor.specs.declared.Layout.{Layout}
+use Rattle.factor.specs.Layouts.{rowOf}
+use Rattle.factor.specs.SumBounds.{Bounded, bounded-le}
+use Rattle.factor.specs.LayoutInSheet.{InSheet, row-wide}
+use Rattle.factor.specs.Rounding.{rounded-within}
+use Rattle.joint.specs.Sums.{across, columnSums, restSums, jointSum, mostColumn, Band, columns-small, joint-small}
+use Rattle.joint.specs.Sums.{across-small}
 
 -- ---- definitions
 -- the sign of row m, and its weight on the diagonal, "±4096 inside the sum"
-abbrev pub signAt : List ℤ → Spot → ℕ → ℤ
+abbrev pub signAt : List ℤ → Layout → ℕ → ℤ
 signAt s f m = at s (f .signs + m)
 
-abbrev pub ownOf : ℤ → ℤ
-ownOf d = pos unit *ℤ d
+abbrev pub diagonalOf : ℤ → ℤ
+diagonalOf d = pos unit *ℤ d
 
 -- the sums of row i over the n columns
-abbrev pub sumsAt : List ℤ → Spot → ℕ → List ℤ → ℕ → List ℤ
-sumsAt s f i x n = columnSums s (rowOf f i) i (ownOf (signAt s f i)) x n
+abbrev pub sumsAt : List ℤ → Layout → ℕ → List ℤ → ℕ → List ℤ
+sumsAt s f i x n = columnSums s (rowOf f i) i (diagonalOf (signAt s f i)) x n
 
 -- the same without row i itself
-abbrev pub restsAt : List ℤ → Spot → ℕ → List ℤ → ℕ → List ℤ
-restsAt s f i x n = restSums s (rowOf f i) i x n
+abbrev pub restSumsAt : List ℤ → Layout → ℕ → List ℤ → ℕ → List ℤ
+restSumsAt s f i x n = restSums s (rowOf f i) i x n
 
-module _ (s : List ℤ) (f : Spot) (j : ℕ) (d : ℤ) (v : List ℤ) (x : ℤ) where
+module _ (rule : Rule) (s : List ℤ) (f : Layout) (j : ℕ) (d : ℤ) (v : List ℤ) (x : ℤ) where
   -- the rounded sum of an element in column j
-  unfoldable pub nudge : ℤ
-  nudge = R nearest unit² (jointSum s (rowOf f j) j (ownOf (signAt s f j)) (ownOf d) v x)
+  unfoldable pub roundedSum : ℤ
+  roundedSum = R rule unit² (jointSum s (rowOf f j) j (diagonalOf (signAt s f j)) (diagonalOf d) v x)
 
-  unfoldable pub outAt : ℤ
-  outAt = ((d *ℤ signAt s f j) *ℤ x) +ℤ nudge
+  unfoldable pub appliedAt : ℤ
+  appliedAt = ((d *ℤ signAt s f j) *ℤ x) +ℤ roundedSum
 
-  unfoldable pub backAt : ℤ
-  backAt = (d *ℤ signAt s f j) *ℤ (x -ℤ nudge)
+  unfoldable pub undoneAt : ℤ
+  undoneAt = (d *ℤ signAt s f j) *ℤ (x -ℤ roundedSum)
 
 -- the same where v has nothing of the element's own number
-unfoldable pub restNudge : List ℤ → Spot → ℕ → List ℤ → ℤ
-restNudge s f j v = R nearest unit² (across s (rowOf f j) j (ownOf (signAt s f j)) (at v))
+unfoldable pub roundedRest : Rule → List ℤ → Layout → ℕ → List ℤ → ℤ
+roundedRest rule s f j v = R rule unit² (across s (rowOf f j) j (diagonalOf (signAt s f j)) (at v))
 
-unfoldable pub restBack : List ℤ → Spot → ℕ → ℤ → List ℤ → ℤ → ℤ
-restBack s f j d v x = (d *ℤ signAt s f j) *ℤ (x -ℤ restNudge s f j v)
+unfoldable pub undoneRest : Rule → List ℤ → Layout → ℕ → ℤ → List ℤ → ℤ → ℤ
+undoneRest rule s f j d v x = (d *ℤ signAt s f j) *ℤ (x -ℤ roundedRest rule s f j v)
 
 -- element e of a block, from the whole block
-module _ (c : List ℤ) (fa : Spot) (r : List ℤ) (fb : Spot) (x : List ℤ) (e : ℕ) where
+module _ (rule : Rule) (c : List ℤ) (fa : Layout) (r : List ℤ) (fb : Layout) (x : List ℤ) (e : ℕ) where
   abbrev rowNo : ℕ
   rowNo = e / fb .order
 
-  unfoldable pub outOf : ℤ
-  outOf = outAt r fb (e % fb .order) (signAt c fa rowNo) (sumsAt c fa rowNo x (fb .order)) (at x e)
+  unfoldable pub appliedOf : ℤ
+  appliedOf = appliedAt rule r fb (e % fb .order) (signAt c fa rowNo) (sumsAt c fa rowNo x (fb .order)) (at x e)
 
-  unfoldable pub backOf : ℤ
-  backOf = backAt r fb (e % fb .order) (signAt c fa rowNo) (sumsAt c fa rowNo x (fb .order)) (at x e)
+  unfoldable pub undoneOf : ℤ
+  undoneOf = undoneAt rule r fb (e % fb .order) (signAt c fa rowNo) (sumsAt c fa rowNo x (fb .order)) (at x e)
+
+-- ---- what the code asks
+-- of row i of a block, whose sums over n columns go into v
+abbrev pub RowGiven : List ℤ → Layout → ℕ → List ℤ → ℕ → List ℤ → Type 0
+RowGiven s f i x n v = InSheet s f × (i < f .order) × (n ≤ 16) × Bounded bound x × (v ≡ replicate 16 (pos 0))
+
+-- of the element in column j
+abbrev pub ElementGiven : List ℤ → Layout → ℕ → ℤ → List ℤ → ℤ → Type 0
+ElementGiven s f j d v x = InSheet s f × (j < f .order) × Sign d × Bounded mostColumn v × Within bound x
 
 -- ---- sizes
-pub own-small : {d : ℤ} → Sign d → Within mostEntry (ownOf d)
-own-small g = within-le {A = unit * 1} (omega arith) (within-* (within-pos unit) (sign-within g))
+pub diagonal-small : {d : ℤ} → Sign d → Within mostEntry (diagonalOf d)
+diagonal-small g = within-le {A = unit * 1} (omega arith) (within-* (within-pos unit) (sign-within g))
 
 -- the weights of row m of a factor
-pub band-at : {s : List ℤ} {f : Spot} → Lies s f → (m : ℕ) → m < f .order → Band s (rowOf f m) m (ownOf (signAt s f m))
-band-at h m l = record { row = row-wide (h .order) (h .row m l); small = own-small (h .sign m l) }
+pub band-at : {s : List ℤ} {f : Layout} → InSheet s f → (m : ℕ) → m < f .order → Band s (rowOf f m) m (diagonalOf (signAt s f m))
+band-at h m l = record { row = row-wide (h .order) (h .row m l); small = diagonal-small (h .sign m l) }
 
-pub sums-small : {s : List ℤ} {f : Spot} {x : List ℤ} → Lies s f → (i : ℕ) → i < f .order → (n : ℕ) → Numbers bound x → Numbers mostColumn (sumsAt s f i x n)
-sums-small h i l n q = columns-small n (band-at h i l) (numbers-le (omega arith) q)
+pub sums-small : {s : List ℤ} {f : Layout} {x : List ℤ} → InSheet s f → (i : ℕ) → i < f .order → (n : ℕ) → Bounded bound x →
+    Bounded mostColumn (sumsAt s f i x n)
+sums-small h i l n q = columns-small n (band-at h i l) (bounded-le (omega arith) q)
 
 abbrev pub mostJoint : ℕ
 mostJoint = 16 * (mostEntry * mostColumn) + mostEntry * mostEntry * mostAllowance
 
-module _ {s : List ℤ} {f : Spot} {d x : ℤ} {v : List ℤ} (h : Lies s f) (j : ℕ) (l : j < f .order) (g : Sign d) (q : Numbers mostColumn v) (k : Within bound x) where
-  pub element-small : Within mostJoint (jointSum s (rowOf f j) j (ownOf (signAt s f j)) (ownOf d) v x)
-  element-small = joint-small (band-at h j l) (own-small g) q (within-le (omega arith) k)
+module _ {s : List ℤ} {f : Layout} {d x : ℤ} {v : List ℤ} (h : InSheet s f) (j : ℕ) (l : j < f .order) (g : Sign d)
+    (q : Bounded mostColumn v) (k : Within bound x) where
+  pub element-small : Within mostJoint (jointSum s (rowOf f j) j (diagonalOf (signAt s f j)) (diagonalOf d) v x)
+  element-small = joint-small (band-at h j l) (diagonal-small g) q (within-le (omega arith) k)
 
-  pub nudge-small : Within (mostJoint + 8388608) (nudge s f j d v x)
-  unfolding nudge R
-  nudge-small = within-shr 16777216 (within-+ element-small (within-pos 8388608))
+  pub rounded-sum-small : (rule : Rule) → Within (mostJoint + 8388608) (roundedSum rule s f j d v x)
+  unfolding roundedSum
+  rounded-sum-small rule = rounded-within rule unit² element-small
 
-module _ {s : List ℤ} {f : Spot} {v : List ℤ} (h : Lies s f) (j : ℕ) (l : j < f .order) (q : Numbers mostColumn v) where
-  pub rest-element-small : Within mostJoint (across s (rowOf f j) j (ownOf (signAt s f j)) (at v))
+module _ {s : List ℤ} {f : Layout} {v : List ℤ} (h : InSheet s f) (j : ℕ) (l : j < f .order) (q : Bounded mostColumn v) where
+  pub rest-element-small : Within mostJoint (across s (rowOf f j) j (diagonalOf (signAt s f j)) (at v))
   rest-element-small = within-le (omega arith) (across-small (band-at h j l) (at v) (q .small))
 
-  pub rest-nudge-small : Within (mostJoint + 8388608) (restNudge s f j v)
-  unfolding restNudge R
-  rest-nudge-small = within-shr 16777216 (within-+ rest-element-small (within-pos 8388608))
+  pub rounded-rest-small : (rule : Rule) → Within (mostJoint + 8388608) (roundedRest rule s f j v)
+  unfolding roundedRest
+  rounded-rest-small rule = rounded-within rule unit² rest-element-small

@@ -1,5 +1,5 @@
 pub mod Sums
 pub mod Elements
-pub mod Sizes
-pub mod Carried
-pub mod Went
+pub mod Allowances
+pub mod RecoveredSums
+pub mod RowsInPlace

@@ -18,9 +18,9 @@ use Rattle.whole.specs.Sum.{sum, sum-cong, sum-within}
 use Rattle.rules.specs.Numbers.{mostEntry, mostAllowance, at}
 use Rattle.rules.specs.Stages.{fill}
 use Rattle.rules.specs.Laws.Lists.{length-fill, fill-at, fill-past, fill-same, same-list, set-other}
-use Rattle.rules.specs.Laws.Rect.{row-of, col-of}
+use Rattle.rules.specs.Laws.Rectangles.{row-of, col-of}
 use Rattle.factor.specs.declared.Row.{Row}
-use Rattle.factor.specs.Reach.{Numbers, RowIn, numbers-le, numbers-set}
+use Rattle.factor.specs.SumBounds.{Bounded, RowIn, bounded-le, bounded-set}
 
 -- ---- definitions
 -- row m: its entries, each times the number f of its column
@@ -30,7 +30,7 @@ entriesSum a r m f =
 
 -- and its own weight times the number of its own column
 abbrev pub across : List ℤ → Row → ℕ → ℤ → (ℕ → ℤ) → ℤ
-across a r m own f = entriesSum a r m f +ℤ (own *ℤ f m)
+across a r m diagonal f = entriesSum a r m f +ℤ (diagonal *ℤ f m)
 
 -- the number of row l in column k of a block whose rows have n numbers
 abbrev pub inColumn : List ℤ → ℕ → ℕ → ℕ → ℤ
@@ -46,7 +46,7 @@ rowsSum a p m x k n c = sum m (λ j. at a (p + j) *ℤ at x (k + j * n + c))
 
 -- "V": row m times each of the n columns
 unfoldable pub columnSums : List ℤ → Row → ℕ → ℤ → List ℤ → ℕ → List ℤ
-columnSums a r m own x n = fill n (λ k. across a r m own (inColumn x n k)) (replicate 16 (pos 0))
+columnSums a r m diagonal x n = fill n (λ k. across a r m diagonal (inColumn x n k)) (replicate 16 (pos 0))
 
 -- the same without row m itself
 unfoldable pub restSums : List ℤ → Row → ℕ → List ℤ → ℕ → List ℤ
@@ -54,20 +54,20 @@ restSums a r m x n = fill n (λ k. entriesSum a r m (inColumn x n k)) (replicate
 
 -- row m times V, less the own term of an element: up is the weight on the diagonal in its row of the block, x its number
 unfoldable pub jointSum : List ℤ → Row → ℕ → ℤ → ℤ → List ℤ → ℤ → ℤ
-jointSum a r m own up v x = across a r m own (at v) -ℤ ((up *ℤ own) *ℤ x)
+jointSum a r m diagonal columnDiagonal v x = across a r m diagonal (at v) -ℤ ((columnDiagonal *ℤ diagonal) *ℤ x)
 
 -- the largest number of V
 abbrev pub mostColumn : ℕ
 mostColumn = 16 * (mostEntry * mostAllowance)
 
 -- and of a column less a number in it
-abbrev pub mostOwn : ℕ
-mostOwn = mostColumn + mostEntry * mostAllowance
+abbrev pub mostRest : ℕ
+mostRest = mostColumn + mostEntry * mostAllowance
 
 -- ---- what the code asks
-pub record Band (a : List ℤ) (r : Row) (m : ℕ) (own : ℤ) : Type 0 where
+pub record Band (a : List ℤ) (r : Row) (m : ℕ) (diagonal : ℤ) : Type 0 where
   pub row : RowIn a 16 r m
-  pub small : Within mostEntry own
+  pub small : Within mostEntry diagonal
 
 -- a row of entries alone
 pub no-diagonal : {a : List ℤ} {r : Row} {m : ℕ} → RowIn a 16 r m → Band a r m (pos 0)
@@ -85,8 +85,8 @@ pub record Adding (a : List ℤ) (p m : ℕ) (x : List ℤ) (k n : ℕ) (v : Lis
   pub room : p + m ≤ length a
   pub places : k + m * n ≤ 256
   pub entries : (j : ℕ) → j < m → Within mostEntry (at a (p + j))
-  pub numbers : Numbers mostAllowance x
-  pub small : Numbers (some * product) v
+  pub numbers : Bounded mostAllowance x
+  pub small : Bounded (some * product) v
   pub long : length v ≡ 16
 
 -- m entries of a from place p on, and numbers of V from place k on
@@ -94,15 +94,16 @@ pub record Wide (a : List ℤ) (p : ℕ) (v : List ℤ) (k m : ℕ) : Type 0 whe
   pub room : p + m ≤ length a
   pub columns : k + m ≤ 16
   pub entries : (j : ℕ) → j < m → Within mostEntry (at a (p + j))
-  pub numbers : Numbers mostColumn v
+  pub numbers : Bounded mostColumn v
 
-pub wide-small : {a v : List ℤ} {p k m : ℕ} → Wide a p v k m → (i : ℕ) → i ≤ m → Within (16 * (mostEntry * mostColumn)) (sum i (λ j. at a (p + j) *ℤ at v (k + j)))
+pub wide-small : {a v : List ℤ} {p k m : ℕ} → Wide a p v k m → (i : ℕ) → i ≤ m →
+    Within (16 * (mostEntry * mostColumn)) (sum i (λ j. at a (p + j) *ℤ at v (k + j)))
 wide-small {m} t i l =
     let h = t .columns in
     within-le (omega arith) (sum-within i _ (λ j b. within-* (t .entries j (omega arith)) (t .numbers .small _)))
 
 -- ---- a whole row: sixteen terms at most
-module _ {a : List ℤ} {r : Row} {m : ℕ} {own : ℤ} (h : Band a r m own) where
+module _ {a : List ℤ} {r : Row} {m : ℕ} {diagonal : ℤ} (h : Band a r m diagonal) where
   module _ {B : ℕ} (f : ℕ → ℤ) (k : (j : ℕ) → Within B (f j)) where
     pub entries-small : Within (15 * (mostEntry * B)) (entriesSum a r m f)
     unfolding entriesSum
@@ -116,10 +117,10 @@ module _ {a : List ℤ} {r : Row} {m : ℕ} {own : ℤ} (h : Band a r m own) whe
         let e : r .at + (r .left + j) ≡ r .at + r .left + j = omega arith in
         within-* (rw e at (h .row .entries (r .left + j) (omega arith))) (k (suc m + j)))))
 
-    pub across-small : Within (16 * (mostEntry * B)) (across a r m own f)
+    pub across-small : Within (16 * (mostEntry * B)) (across a r m diagonal f)
     across-small = within-le (omega arith) (within-+ entries-small (within-* (h .small) (k m)))
 
-  module _ {v : List ℤ} (q : Numbers mostColumn v) where
+  module _ {v : List ℤ} (q : Bounded mostColumn v) where
     pub left-wide : Wide a (r .at) v 0 (r .left)
     left-wide = record {
       room = let s = h .row .room in omega arith;
@@ -132,7 +133,8 @@ module _ {a : List ℤ} {r : Row} {m : ℕ} {own : ℤ} (h : Band a r m own) whe
     right-wide = record {
       room = let s = h .row .room in omega arith;
       columns = let t = h .row .right in omega arith;
-      entries = λ j g. let e : r .at + (r .left + j) ≡ r .at + r .left + j = omega arith in rw e at (h .row .entries (r .left + j) (omega arith));
+      entries = λ j g. let e : r .at + (r .left + j) ≡ r .at + r .left + j = omega arith in
+          rw e at (h .row .entries (r .left + j) (omega arith));
       numbers = q;
     }
 
@@ -150,7 +152,7 @@ zero-at zero (suc k) = refl
 zero-at (suc n) zero = refl
 zero-at (suc n) (suc k) = zero-at n k
 
-pub nothing : {B : ℕ} (n : ℕ) → Numbers B (replicate n (pos 0))
+pub nothing : {B : ℕ} (n : ℕ) → Bounded B (replicate n (pos 0))
 nothing n = record { small = λ k. rw (zero-at n k) (record { within = omega arith }) }
 
 pub fill-over : (n : ℕ) (f g : ℕ → ℤ) (v : List ℤ) → n ≤ length v → fill n f (fill n g v) ≡ fill n f v
@@ -167,14 +169,16 @@ added-twice n f g v l =
     fill-over n _ _ v l
     ∙ fill-same n _ _ v (λ c b. ap (λ (z : ℤ). z +ℤ g c) (fill-at n _ v c b l) ∙ +ℤ-assoc (at v c) (f c) (g c))
 
-pub added-small : (n : ℕ) (f : ℕ → ℤ) (v : List ℤ) (s j : ℕ) → n ≤ length v → Numbers (s * product) v → ((c : ℕ) → c < n → Within (j * product) (f c)) → Numbers ((s + j) * product) (added n f v)
+pub added-small : (n : ℕ) (f : ℕ → ℤ) (v : List ℤ) (s j : ℕ) → n ≤ length v → Bounded (s * product) v →
+    ((c : ℕ) → c < n → Within (j * product) (f c)) → Bounded ((s + j) * product) (added n f v)
 added-small n f v s j l h g = record { small = λ c. go c (decLt c n) }
   where
     go : (c : ℕ) → Dec (c < n) → Within ((s + j) * product) (at (added n f v) c)
     go c (yes b) = rw (fill-at n (λ c. at v c +ℤ f c) v c b l) (within-le (omega arith) (within-+ (h .small c) (g c b)))
     go c (no b) = rw (fill-past n (λ c. at v c +ℤ f c) v c (omega arith)) (within-le (omega arith) (h .small c))
 
-rows-small : {a x v : List ℤ} {p m k n : ℕ} → Adding a p m x k n v → (j : ℕ) → j ≤ m → (c : ℕ) → Within (j * product) (rowsSum a p j x k n c)
+rows-small : {a x v : List ℤ} {p m k n : ℕ} → Adding a p m x k n v → (j : ℕ) → j ≤ m → (c : ℕ) →
+    Within (j * product) (rowsSum a p j x k n c)
 unfolding rowsSum
 rows-small t j l c = sum-within j _ (λ i b. within-* (t .entries i (omega arith)) (t .numbers .small _))
 
@@ -184,13 +188,16 @@ unfolding rowsSum sum
 added-none {v} {n} t =
     let e = t .wide in
     let l : n ≤ length v = omega (arith, t .long) in
-    same-list n v _ (sym (length-fill n _ v)) (λ c b. sym (fill-at n _ v c b l ∙ +ℤ-idr (at v c))) (λ c b. sym (fill-past n _ v c b))
+    same-list n v _ (sym (length-fill n _ v)) (λ c b. sym (fill-at n _ v c b l ∙ +ℤ-idr (at v c)))
+    (λ c b. sym (fill-past n _ v c b))
 
-pub adding-small : {a x v : List ℤ} {p m k n : ℕ} → Adding a p m x k n v → (j : ℕ) → j < m → Numbers mostColumn (added n (rowsSum a p j x k n) v)
+pub adding-small : {a x v : List ℤ} {p m k n : ℕ} → Adding a p m x k n v → (j : ℕ) → j < m →
+    Bounded mostColumn (added n (rowsSum a p j x k n) v)
 adding-small {v} {n} t j l =
     let d = t .few in
     let e = t .wide in
-    numbers-le (omega arith) (added-small n _ v (t .some) j (omega (arith, t .long)) (t .small) (λ c b. rows-small t j (omega arith) c))
+    bounded-le (omega arith) (added-small n _ v (t .some) j (omega (arith, t .long)) (t .small)
+    (λ c b. rows-small t j (omega arith) c))
 
 pub adding-next : {a x v : List ℤ} {p m k n : ℕ} → Adding a p m x k n v → (j : ℕ) →
     added n (λ c. at a (p + j) *ℤ at x (k + j * n + c)) (added n (rowsSum a p j x k n) v) ≡ added n (rowsSum a p (j + 1) x k n) v
@@ -198,7 +205,8 @@ unfolding rowsSum sum
 adding-next {v} {n} t j = let e = t .wide in added-twice n _ _ v (omega (arith, t .long)) ∙ rw add-one
 
 -- the two runs of entries
-module _ {a : List ℤ} {r : Row} {m : ℕ} (h : RowIn a 16 r m) {x : List ℤ} {n : ℕ} (few : n ≤ 16) (q : Numbers mostAllowance x) where
+module _ {a : List ℤ} {r : Row} {m : ℕ} (h : RowIn a 16 r m) {x : List ℤ} {n : ℕ} (few : n ≤ 16)
+    (q : Bounded mostAllowance x) where
   abbrev zeros : List ℤ
   zeros = replicate 16 (pos 0)
 
@@ -215,21 +223,25 @@ module _ {a : List ℤ} {r : Row} {m : ℕ} (h : RowIn a 16 r m) {x : List ℤ} 
     long = refl;
   }
 
-  pub below : Adding a (r .at + r .left) (r .right) x ((m + 1) * n) n (added n (rowsSum a (r .at) (r .left) x 0 n) (replicate 16 (pos 0)))
+  pub below : Adding a (r .at + r .left) (r .right) x ((m + 1) * n) n
+      (added n (rowsSum a (r .at) (r .left) x 0 n) (replicate 16 (pos 0)))
   below = record {
     some = r .left;
     few = let d = h .left in let e = h .right in omega arith;
     wide = few;
     room = let d = h .room in omega arith;
     places = omega (arith, mul-le-mul (h .right) few);
-    entries = λ j b. let e : r .at + (r .left + j) ≡ r .at + r .left + j = omega arith in rw e at (h .entries (r .left + j) (omega arith));
+    entries = λ j b. let e : r .at + (r .left + j) ≡ r .at + r .left + j = omega arith in
+        rw e at (h .entries (r .left + j) (omega arith));
     numbers = q;
-    small = numbers-le (omega arith) (added-small n _ zeros 0 (r .left) few (nothing 16) (λ c b. rows-small above (r .left) (omega arith) c));
+    small = bounded-le (omega arith) (added-small n _ zeros 0 (r .left) few (nothing 16)
+        (λ c b. rows-small above (r .left) (omega arith) c));
     long = length-fill n _ zeros;
   }
 
   -- together
-  pub rest-rows : added n (rowsSum a (r .at + r .left) (r .right) x ((m + 1) * n) n) (added n (rowsSum a (r .at) (r .left) x 0 n) (replicate 16 (pos 0))) ≡ restSums a r m x n
+  pub rest-rows : added n (rowsSum a (r .at + r .left) (r .right) x ((m + 1) * n) n)
+      (added n (rowsSum a (r .at) (r .left) x 0 n) (replicate 16 (pos 0))) ≡ restSums a r m x n
   unfolding restSums entriesSum rowsSum
   rest-rows =
       added-twice n _ _ zeros few
@@ -242,55 +254,65 @@ module _ {a : List ℤ} {r : Row} {m : ℕ} (h : RowIn a 16 r m) {x : List ℤ} 
       (sum-cong (r .right) _ _ (λ j g. let e : (m + 1) * n + j * n + c ≡ (suc m + j) * n + c = omega arith in rw e))))
 
   -- and row m itself
-  pub column-rows : (own : ℤ) → added n (λ c. own *ℤ at x (m * n + c)) (restSums a r m x n) ≡ columnSums a r m own x n
+  pub column-rows : (diagonal : ℤ) →
+      added n (λ c. diagonal *ℤ at x (m * n + c)) (restSums a r m x n) ≡ columnSums a r m diagonal x n
   unfolding restSums columnSums
-  column-rows own =
-      fill-over n _ _ zeros few ∙ fill-same n _ _ zeros (λ c b. ap (λ (z : ℤ). z +ℤ (own *ℤ at x (m * n + c))) (fill-at n _ zeros c b few))
+  column-rows diagonal =
+      fill-over n _ _ zeros few
+      ∙ fill-same n _ _ zeros (λ c b. ap (λ (z : ℤ). z +ℤ (diagonal *ℤ at x (m * n + c))) (fill-at n _ zeros c b few))
 
 -- ---- V holds small numbers, whatever its place
-pub fill-small : {B : ℕ} (n : ℕ) (f : ℕ → ℤ) (v : List ℤ) → Numbers B v → ((k : ℕ) → k < n → Within B (f k)) → Numbers B (fill n f v)
+pub fill-small : {B : ℕ} (n : ℕ) (f : ℕ → ℤ) (v : List ℤ) → Bounded B v → ((k : ℕ) → k < n → Within B (f k)) →
+    Bounded B (fill n f v)
 unfolding fill
 fill-small zero f v h g = h
-fill-small (suc n) f v h g = numbers-set (fill n f v) n (fill-small n f v h (λ k l. g k (omega arith))) (g n (omega arith))
+fill-small (suc n) f v h g = bounded-set (fill n f v) n (fill-small n f v h (λ k l. g k (omega arith))) (g n (omega arith))
 
-pub columns-small : {a : List ℤ} {r : Row} {m : ℕ} {own : ℤ} {x : List ℤ} (n : ℕ) → Band a r m own → Numbers mostAllowance x → Numbers mostColumn (columnSums a r m own x n)
+pub columns-small : {a : List ℤ} {r : Row} {m : ℕ} {diagonal : ℤ} {x : List ℤ} (n : ℕ) → Band a r m diagonal →
+    Bounded mostAllowance x → Bounded mostColumn (columnSums a r m diagonal x n)
 unfolding columnSums
-columns-small {x} n h q = fill-small n _ (replicate 16 (pos 0)) (nothing 16) (λ k l. across-small h (inColumn x n k) (λ j. q .small (j * n + k)))
+columns-small {x} n h q =
+    fill-small n _ (replicate 16 (pos 0)) (nothing 16) (λ k l. across-small h (inColumn x n k) (λ j. q .small (j * n + k)))
 
 -- the own term comes off before or after the diagonal's weight
-pub own-first : (a : List ℤ) (r : Row) (m : ℕ) (own up : ℤ) (v : List ℤ) (x : ℤ) → entriesSum a r m (at v) +ℤ (own *ℤ (at v m -ℤ (up *ℤ x))) ≡ jointSum a r m own up v x
+pub diagonal-first : (a : List ℤ) (r : Row) (m : ℕ) (diagonal columnDiagonal : ℤ) (v : List ℤ) (x : ℤ) →
+    entriesSum a r m (at v) +ℤ (diagonal *ℤ (at v m -ℤ (columnDiagonal *ℤ x))) ≡ jointSum a r m diagonal columnDiagonal v x
 unfolding jointSum
-own-first a r m own up v x = plain (entriesSum a r m (at v)) own (at v m) up x
+diagonal-first a r m diagonal columnDiagonal v x = plain (entriesSum a r m (at v)) diagonal (at v m) columnDiagonal x
   where
     plain : (e o w u y : ℤ) → e +ℤ (o *ℤ (w -ℤ (u *ℤ y))) ≡ (e +ℤ (o *ℤ w)) -ℤ ((u *ℤ o) *ℤ y)
     plain e o w u y = simp distrib (simp lin (omega arith))
 
-pub joint-small : {a : List ℤ} {r : Row} {m : ℕ} {own up x : ℤ} {v : List ℤ} → Band a r m own → Within mostEntry up → Numbers mostColumn v → Within mostAllowance x →
-    Within (16 * (mostEntry * mostColumn) + mostEntry * mostEntry * mostAllowance) (jointSum a r m own up v x)
+pub joint-small : {a : List ℤ} {r : Row} {m : ℕ} {diagonal columnDiagonal x : ℤ} {v : List ℤ} → Band a r m diagonal →
+    Within mostEntry columnDiagonal → Bounded mostColumn v → Within mostAllowance x →
+    Within (16 * (mostEntry * mostColumn) + mostEntry * mostEntry * mostAllowance) (jointSum a r m diagonal columnDiagonal v x)
 unfolding jointSum
 joint-small {v} h u q g = within-- (across-small h (at v) (q .small)) (within-* (within-* u (h .small)) g)
 
 -- ---- V of row m looks at row m of the block, and at the rows that row m has entries for
 pub record SameRows (r : Row) (m n : ℕ) (x y : List ℤ) : Type 0 where
   pub left : (j k : ℕ) → j < r .left → k < n → at x (j * n + k) ≡ at y (j * n + k)
-  pub own : (k : ℕ) → k < n → at x (m * n + k) ≡ at y (m * n + k)
+  pub diagonal : (k : ℕ) → k < n → at x (m * n + k) ≡ at y (m * n + k)
   pub right : (j k : ℕ) → j < r .right → k < n → at x ((suc m + j) * n + k) ≡ at y ((suc m + j) * n + k)
 
-pub columns-same : (a : List ℤ) {r : Row} {m : ℕ} (own : ℤ) {n : ℕ} {x y : List ℤ} → SameRows r m n x y → columnSums a r m own x n ≡ columnSums a r m own y n
+pub columns-same : (a : List ℤ) {r : Row} {m : ℕ} (diagonal : ℤ) {n : ℕ} {x y : List ℤ} → SameRows r m n x y →
+    columnSums a r m diagonal x n ≡ columnSums a r m diagonal y n
 unfolding columnSums entriesSum
-columns-same a {r} {m} own {n} h =
+columns-same a {r} {m} diagonal {n} h =
     fill-same n _ _ (replicate 16 (pos 0))
     (λ k l.
     ap₂ _+ℤ_
     (ap₂ _+ℤ_ (sum-cong (r .left) _ _ (λ j b. rw (h .left j k b l))) (sum-cong (r .right) _ _ (λ j b. rw (h .right j k b l))))
-    (rw (h .own k l)))
+    (rw (h .diagonal k l)))
 
 -- ---- the number of row m in column j became z
 -- no other number did
-pub column-other : (x : List ℤ) (m n j : ℕ) (z : ℤ) → j < n → (k t : ℕ) → k < n → (k ≡ j → t ≢ m) → inColumn (set x (m * n + j) z) n k t ≡ inColumn x n k t
+pub column-other : (x : List ℤ) (m n j : ℕ) (z : ℤ) → j < n → (k t : ℕ) → k < n → (k ≡ j → t ≢ m) →
+    inColumn (set x (m * n + j) z) n k t ≡ inColumn x n k t
 column-other x m n j z l k t b q =
     set-other x (m * n + j) (t * n + k) z
-    (λ e. q (sym (col-of 0 n t k b) ∙ ap (λ (u : ℕ). u % n) e ∙ col-of 0 n m j l) (sym (row-of 0 n t k b) ∙ ap (λ (u : ℕ). u / n) e ∙ row-of 0 n m j l))
+    (λ e. q (sym (col-of 0 n t k b) ∙ ap (λ (u : ℕ). u % n) e ∙ col-of 0 n m j l)
+    (sym (row-of 0 n t k b) ∙ ap (λ (u : ℕ). u / n) e ∙ row-of 0 n m j l))
 
 -- and the entries off the diagonal do not look at it
 pub rest-same : {a : List ℤ} {r : Row} (x : List ℤ) {m : ℕ} (n j : ℕ) (z : ℤ) → RowIn a 16 r m → j < n → (k : ℕ) → k < n →
@@ -301,7 +323,9 @@ rest-same {r} x {m} n j z h l k b =
     (sum-cong (r .left) _ _ (λ t c. let d = h .left in rw (column-other x m n j z l k t b (λ e f. omega arith))))
     (sum-cong (r .right) _ _ (λ t c. rw (column-other x m n j z l k (suc m + t) b (λ e f. omega arith))))
 
-pub rests-small : {a : List ℤ} {r : Row} {m : ℕ} {x : List ℤ} (n : ℕ) → RowIn a 16 r m → Numbers mostAllowance x → Numbers mostColumn (restSums a r m x n)
+pub rest-sums-small : {a : List ℤ} {r : Row} {m : ℕ} {x : List ℤ} (n : ℕ) → RowIn a 16 r m → Bounded mostAllowance x →
+    Bounded mostColumn (restSums a r m x n)
 unfolding restSums
-rests-small {x} n h q =
-    fill-small n _ (replicate 16 (pos 0)) (nothing 16) (λ k l. within-le (omega arith) (entries-small (no-diagonal h) (inColumn x n k) (λ j. q .small (j * n + k))))
+rest-sums-small {x} n h q =
+    fill-small n _ (replicate 16 (pos 0)) (nothing 16)
+    (λ k l. within-le (omega arith) (entries-small (no-diagonal h) (inColumn x n k) (λ j. q .small (j * n + k))))

@@ -6,20 +6,20 @@ ghost use lib.ListN.{replicate};
 ghost use lib.Signed.{shrZ};
 ghost use mir.Syntax.{w64};
 ghost use mir.Val.{SFits};
-ghost use Rattle.whole.specs.Diff.{Within};
 ghost use Rattle.rules.specs.Numbers.{mostAllowance};
-ghost use Rattle.factor.specs.Reach.{Numbers};
-ghost use Rattle.factor.specs.Lies.{Lies};
-ghost use Rattle.joint.specs.Sums.{mostColumn};
-ghost use Rattle.joint.specs.Sizes.{sizeSums, sizeSum, wholeRow, shareOf, allowAt};
+ghost use Rattle.factor.specs.SumBounds.{Bounded};
+ghost use Rattle.factor.specs.LayoutInSheet.{InSheet};
+ghost use Rattle.joint.specs.Allowances.{AllowanceGiven, magnitudeSums, magnitudeSum, wholeRow, shareOf, allowedAt};
 use crate::sums::column_sums;
 use crate::sums::joint_sum;
+use factor::Layout;
 use factor::Row;
-use factor::Spot;
 use factor::magnitudes::are_whole;
 use factor::magnitudes::magnitudes;
 use factor::rounding::raised;
+use factor::rounding::share_of;
 use factor::row_of;
+use rules::Rule;
 
 // The quotient s / 16777216 upward.
 fn raise_joint(s: i64) -> i64
@@ -30,9 +30,17 @@ fn raise_joint(s: i64) -> i64
 }
 
 // The sums of row i over the n columns of a block of allowances, with magnitudes, into v.
-pub fn size_sums_at(col: &[i32], f: Spot, i: usize, b: &[i32; 256], n: usize, v: &mut [i64; 16])
-    requires { ⌜ Lies (now col) f × (i < f .order) × (n ≤ 16) × Numbers mostAllowance (now b) × (now v ≡ replicate 16 (pos 0)) ⌝ }
-    ensures { λ _. ⌜ now (v .exit) ≡ sizeSums (now (col .entry)) f i (now (b .entry)) n ⌝ }
+pub fn magnitude_sums_at(
+    col: &[i32],
+    f: Layout,
+    i: usize,
+    b: &[i32; 256],
+    n: usize,
+    v: &mut [i64; 16],
+)
+    requires { ⌜ InSheet (now col) f × (i < f .order) × (n ≤ 16) × Bounded mostAllowance (now b)
+        × (now v ≡ replicate 16 (pos 0)) ⌝ }
+    ensures { λ _. ⌜ now (v .exit) ≡ magnitudeSums (now (col .entry)) f i (now (b .entry)) n ⌝ }
 {
     let r = row_of(f, i);
     let at = r.at;
@@ -43,9 +51,9 @@ pub fn size_sums_at(col: &[i32], f: Spot, i: usize, b: &[i32; 256], n: usize, v:
 }
 
 // The sum of the element in column j, with magnitudes.
-fn size_sum_at(row: &[i32], f: Spot, j: usize, v: &[i64; 16], b: i32) -> i64
-    requires { ⌜ Lies (now row) f × (j < f .order) × Numbers mostColumn (now v) × Within mostAllowance b ⌝ }
-    ensures { λ r. ⌜ r ≡ sizeSum (now (row .entry)) f j (now (v .entry)) b ⌝ }
+fn magnitude_sum_at(row: &[i32], f: Layout, j: usize, v: &[i64; 16], b: i32) -> i64
+    requires { ⌜ AllowanceGiven (now row) f j (now v) b ⌝ }
+    ensures { λ r. ⌜ r ≡ magnitudeSum (now (row .entry)) f j (now (v .entry)) b ⌝ }
 {
     let r = row_of(f, j);
     let at = r.at;
@@ -56,8 +64,8 @@ fn size_sum_at(row: &[i32], f: Spot, j: usize, v: &[i64; 16], b: i32) -> i64
 }
 
 // Whether row m has only multiples of 4096.
-pub fn is_whole_row(sheet: &[i32], f: Spot, m: usize) -> bool
-    requires { ⌜ Lies (now sheet) f × (m < f .order) ⌝ }
+pub fn is_whole_row(sheet: &[i32], f: Layout, m: usize) -> bool
+    requires { ⌜ InSheet (now sheet) f × (m < f .order) ⌝ }
     ensures { λ r. ⌜ r ≡ wholeRow (now (sheet .entry)) f m ⌝ }
 {
     let r = row_of(f, m);
@@ -67,26 +75,35 @@ pub fn is_whole_row(sheet: &[i32], f: Spot, m: usize) -> bool
     are_whole(sheet, at, left + right)
 }
 
-// The 2048 that a rounding adds, unless both rows have only multiples of 4096.
-fn share_of(a: bool, b: bool) -> i64
-    ensures { λ r. ⌜ r ≡ shareOf a b ⌝ }
+// What a rounding adds, unless both rows have only multiples of 4096.
+fn share_unless_whole(rule: Rule, a: bool, b: bool) -> i64
+    ensures { λ r. ⌜ r ≡ shareOf rule a b ⌝ }
 {
-    if a {
-        if b {
-            return 0;
-        }
+    if !a {
+        return share_of(rule);
     }
-    2048
+    if !b {
+        return share_of(rule);
+    }
+    0
 }
 
 // What the element's allowance becomes; whole says that its row has only multiples of 4096.
-pub fn allow_at(row: &[i32], f: Spot, j: usize, whole: bool, v: &[i64; 16], b: i32) -> i64
-    requires { ⌜ Lies (now row) f × (j < f .order) × Numbers mostColumn (now v) × Within mostAllowance b ⌝ }
-    ensures { λ r. ⌜ r ≡ allowAt (now (row .entry)) f j whole (now (v .entry)) b ⌝ }
+pub fn allowed_at(
+    rule: Rule,
+    row: &[i32],
+    f: Layout,
+    j: usize,
+    whole: bool,
+    v: &[i64; 16],
+    b: i32,
+) -> i64
+    requires { ⌜ AllowanceGiven (now row) f j (now v) b ⌝ }
+    ensures { λ r. ⌜ r ≡ allowedAt rule (now (row .entry)) f j whole (now (v .entry)) b ⌝ }
 {
     raised(
         b,
-        raise_joint(size_sum_at(row, f, j, v, b)),
-        share_of(whole, is_whole_row(row, f, j)),
+        raise_joint(magnitude_sum_at(row, f, j, v, b)),
+        share_unless_whole(rule, whole, is_whole_row(row, f, j)),
     )
 }

@@ -1,115 +1,155 @@
-// One row of elements: every number that it makes is in bound, or the row stops there.
+// One row of elements: every number that it makes is in bound, or the row stops there. A row is part of one stage, so its
+// outcome is that of a run of this stage alone.
 ghost use mathlib.Core.Path.{_≡_};
 ghost use Prim.Native.Nat.{_<_};
 ghost use lib.ListN.{length};
 ghost use Rattle.rules.specs.Numbers.{bound, mostAllowance};
-ghost use Rattle.factor.specs.Spots.{placeOf};
-ghost use Rattle.factor.specs.Reach.{Numbers};
-ghost use Rattle.factor.specs.Lies.{Lies};
-ghost use Rattle.factor.specs.Ways.{limitOf};
-ghost use Rattle.joint.specs.Elements.{outOf, backOf};
-ghost use Rattle.joint.specs.Sizes.{allowOf, newOf};
-ghost use Rattle.joint.specs.Went.{Went, inRow, plain};
-use crate::allowances::allow_at;
+ghost use Rattle.factor.specs.UndoingOrder.{nthUndone};
+ghost use Rattle.factor.specs.SumBounds.{Bounded};
+ghost use Rattle.factor.specs.LayoutInSheet.{InSheet};
+ghost use Rattle.factor.specs.Tasks.{limitOf};
+ghost use Rattle.joint.specs.Elements.{appliedOf, undoneOf};
+ghost use Rattle.joint.specs.Allowances.{allowedOf};
+ghost use Rattle.joint.specs.RowsInPlace.{RowDone, inRow, plain, elementBy, rowOrder};
+use crate::allowances::allowed_at;
 use crate::allowances::is_whole_row;
-use crate::allowances::size_sums_at;
-use crate::elements::back_at;
-use crate::elements::out_at;
-use crate::elements::own_of;
-use crate::elements::rests_at;
+use crate::allowances::magnitude_sums_at;
+use crate::elements::applied_at;
+use crate::elements::diagonal_of;
+use crate::elements::rest_sums_at;
 use crate::elements::sign_at;
 use crate::elements::sums_at;
+use crate::elements::undone_at;
 use crate::sums::with_sum;
-use factor::Spot;
-use factor::Way;
-use factor::place_of;
+use factor::Layout;
+use factor::nth_undone;
 use factor::rounding::is_within;
+use factor::run::Outcome;
+use factor::run::Run;
+use factor::run::Task;
 use rules::Block;
+use rules::Rule;
 
 // Row i applied in place: an element looks at the row's sums, made before, and at its own number.
-fn weigh_row(col: &[i32], fa: Spot, row: &[i32], fb: Spot, i: usize, x: &mut [i32; 256]) -> bool
-    requires { ⌜ Lies (now col) fa × Lies (now row) fb × (i < fa .order) × Numbers bound (now x) ⌝ }
-    ensures { λ ok. ⌜ Went bound (plain (outOf (now (col .entry)) fa (now (row .entry)) fb (now (x .entry)))) (inRow (fb .order) i) (fb .order) (now (x .entry)) (now (x .exit)) ok ⌝ }
+fn apply_row(
+    rule: Rule,
+    col: &[i32],
+    fa: Layout,
+    row: &[i32],
+    fb: Layout,
+    i: usize,
+    x: &mut [i32; 256],
+) -> Outcome
+    requires { ⌜ InSheet (now col) fa × InSheet (now row) fb × (i < fa .order) × Bounded bound (now x) ⌝ }
+    ensures { λ r. ⌜ RowDone bound (plain (appliedOf rule (now (col .entry)) fa (now (row .entry)) fb (now (x .entry))))
+        (inRow (fb .order) i) (fb .order) (now (x .entry)) (now (x .exit)) (r .ok) ⌝ }
 {
     let n = fb.order;
     let mut v = [0i64; 16];
     sums_at(col, fa, i, x, n, &mut v);
     for j in 0..n {
         let e = i * n + j;
-        let z = out_at(row, fb, j, sign_at(col, fa, i), &v, x[e]);
+        let z = applied_at(rule, row, fb, j, sign_at(col, fa, i), &v, x[e]);
         if !is_within(z, Block::SAMPLE) {
-            return false;
+            return Outcome {
+                ok: false,
+                stage: 1,
+            };
         }
         x[e] = z as i32;
     }
-    true
+    Outcome { ok: true, stage: 0 }
 }
 
-// Row i undone in place, in the order of the row sheet's factor. A number goes into the row's sums when it is recovered: nothing looks at
-// it before.
-pub fn unweigh_row(
+// Row i undone in place, in the order of the row sheet's factor. A number goes into the row's sums when it is recovered:
+// nothing looks at it before.
+fn undo_row(
+    rule: Rule,
     col: &[i32],
-    fa: Spot,
+    fa: Layout,
     row: &[i32],
-    fb: Spot,
+    fb: Layout,
     i: usize,
     x: &mut [i32; 256],
-) -> bool
-    requires { ⌜ Lies (now col) fa × Lies (now row) fb × (i < fa .order) × (fb .row < fb .order) × Numbers bound (now x) × (length (now x) ≡ 256) ⌝ }
-    ensures { λ ok. ⌜ Went bound (backOf (now (col .entry)) fa (now (row .entry)) fb) (λ u. inRow (fb .order) i (placeOf (fb .kind) (fb .order) (fb .row) u)) (fb .order) (now (x .entry)) (now (x .exit)) ok ⌝ }
+) -> Outcome
+    requires { ⌜ InSheet (now col) fa × InSheet (now row) fb × (i < fa .order) × (fb .row < fb .order) × Bounded bound (now x)
+        × (length (now x) ≡ 256) ⌝ }
+    ensures { λ r. ⌜ RowDone bound (undoneOf rule (now (col .entry)) fa (now (row .entry)) fb)
+        (λ u. inRow (fb .order) i (nthUndone (fb .kind) (fb .order) (fb .row) u)) (fb .order)
+        (now (x .entry)) (now (x .exit)) (r .ok) ⌝ }
 {
     let n = fb.order;
     let mut v = [0i64; 16];
-    rests_at(col, fa, i, x, n, &mut v);
+    rest_sums_at(col, fa, i, x, n, &mut v);
     for u in 0..n {
-        let j = place_of(fb, u);
+        let j = nth_undone(fb, u);
         let e = i * n + j;
         let d = sign_at(col, fa, i);
-        let z = back_at(row, fb, j, d, &v, x[e]);
+        let z = undone_at(rule, row, fb, j, d, &v, x[e]);
         if !is_within(z, Block::SAMPLE) {
-            return false;
+            return Outcome {
+                ok: false,
+                stage: 1,
+            };
         }
         x[e] = z as i32;
-        v[j] = with_sum(v[j], own_of(d), z);
+        v[j] = with_sum(v[j], diagonal_of(d), z);
     }
-    true
+    Outcome { ok: true, stage: 0 }
 }
 
 // The allowances of row i in place.
-fn allow_row(col: &[i32], fa: Spot, row: &[i32], fb: Spot, i: usize, x: &mut [i32; 256]) -> bool
-    requires { ⌜ Lies (now col) fa × Lies (now row) fb × (i < fa .order) × Numbers mostAllowance (now x) ⌝ }
-    ensures { λ ok. ⌜ Went mostAllowance (plain (allowOf (now (col .entry)) fa (now (row .entry)) fb (now (x .entry)))) (inRow (fb .order) i) (fb .order) (now (x .entry)) (now (x .exit)) ok ⌝ }
+fn allow_row(
+    rule: Rule,
+    col: &[i32],
+    fa: Layout,
+    row: &[i32],
+    fb: Layout,
+    i: usize,
+    x: &mut [i32; 256],
+) -> Outcome
+    requires { ⌜ InSheet (now col) fa × InSheet (now row) fb × (i < fa .order) × Bounded mostAllowance (now x) ⌝ }
+    ensures { λ r. ⌜ RowDone mostAllowance (plain (allowedOf rule (now (col .entry)) fa (now (row .entry)) fb (now (x .entry))))
+        (inRow (fb .order) i) (fb .order) (now (x .entry)) (now (x .exit)) (r .ok) ⌝ }
 {
     let n = fb.order;
     let whole = is_whole_row(col, fa, i);
     let mut v = [0i64; 16];
-    size_sums_at(col, fa, i, x, n, &mut v);
+    magnitude_sums_at(col, fa, i, x, n, &mut v);
     for j in 0..n {
         let e = i * n + j;
-        let z = allow_at(row, fb, j, whole, &v, x[e]);
+        let z = allowed_at(rule, row, fb, j, whole, &v, x[e]);
         if !is_within(z, Block::ALLOWANCE) {
-            return false;
+            return Outcome {
+                ok: false,
+                stage: 1,
+            };
         }
         x[e] = z as i32;
     }
-    true
+    Outcome { ok: true, stage: 0 }
 }
 
-// Row i applied, or on allowances, in place: each element from the block as it stands before the row.
-pub fn take_row(
-    way: Way,
+// Row i in place: undone, each element is from what is recovered; else from the block as it stands before the row.
+pub fn run_row(
+    run: Run,
     col: &[i32],
-    fa: Spot,
+    fa: Layout,
     row: &[i32],
-    fb: Spot,
+    fb: Layout,
     i: usize,
     x: &mut [i32; 256],
-) -> bool
-    requires { ⌜ Lies (now col) fa × Lies (now row) fb × (i < fa .order) × Numbers (limitOf way) (now x) ⌝ }
-    ensures { λ ok. ⌜ Went (limitOf way) (plain (newOf way (now (col .entry)) fa (now (row .entry)) fb (now (x .entry)))) (inRow (fb .order) i) (fb .order) (now (x .entry)) (now (x .exit)) ok ⌝ }
+) -> Outcome
+    requires { ⌜ InSheet (now col) fa × InSheet (now row) fb × (i < fa .order) × (fb .row < fb .order)
+        × Bounded (limitOf (run .task)) (now x) × (length (now x) ≡ 256) ⌝ }
+    ensures { λ r. ⌜ RowDone (limitOf (run .task)) (elementBy run (now (col .entry)) fa (now (row .entry)) fb (now (x .entry)))
+        (rowOrder (run .task) fb i) (fb .order) (now (x .entry)) (now (x .exit)) (r .ok) ⌝ }
 {
-    match way {
-        Way::Applied => return weigh_row(col, fa, row, fb, i, x),
-        Way::Allowed => return allow_row(col, fa, row, fb, i, x),
+    let task = run.task;
+    let rule = run.rule;
+    match task {
+        Task::Forward => return apply_row(rule, col, fa, row, fb, i, x),
+        Task::Inverse => return undo_row(rule, col, fa, row, fb, i, x),
+        Task::Allowance => return allow_row(rule, col, fa, row, fb, i, x),
     }
 }

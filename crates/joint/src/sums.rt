@@ -8,17 +8,11 @@ ghost use mir.Val.{SFits};
 ghost use Rattle.whole.specs.Diff.{Within};
 ghost use Rattle.whole.specs.Sum.{sum};
 ghost use Rattle.rules.specs.Numbers.{mostEntry, mostAllowance, at};
-ghost use Rattle.factor.specs.Reach.{Numbers, RowIn};
-ghost use Rattle.joint.specs.Sums.{added, rowsSum, entriesSum, columnSums, restSums, jointSum, mostColumn, mostOwn, Band, Adding, Wide};
+ghost use Rattle.factor.specs.SumBounds.{Bounded, RowIn};
+ghost use Rattle.joint.specs.Sums.{added, rowsSum, entriesSum, columnSums, restSums, jointSum};
+ghost use Rattle.joint.specs.Sums.{mostColumn, mostRest, Band, Adding, Wide};
 use factor::Row;
-
-// One term more: a weight times a number.
-fn with_number(sum: i64, a: i32, x: i32) -> i64
-    requires { ⌜ SFits w64 a × SFits w64 x × SFits w64 (a *ℤ x) × SFits w64 (sum +ℤ (a *ℤ x)) ⌝ }
-    ensures { λ s. ⌜ s ≡ sum +ℤ (a *ℤ x) ⌝ }
-{
-    sum + (a as i64) * (x as i64)
-}
+use factor::sums::with_term;
 
 // One term more: a weight times a sum over a column.
 pub fn with_sum(sum: i64, a: i32, v: i64) -> i64
@@ -40,14 +34,14 @@ fn wide_sum(a: &[i32], p: usize, v: &[i64; 16], k: usize, m: usize) -> i64
     sum
 }
 
-// One row of the block more: a times each of its n numbers, from place k on, into the sums v. Sums are lent, so that there is one row of
-// them, and go row by row, since the numbers of a row lie side by side.
+// One row of the block more: a times each of its n numbers, from place k on, into the sums v. Sums are lent, so that there is one
+// row of them, and go row by row, since the numbers of a row lie side by side.
 fn add_row(a: i32, x: &[i32; 256], k: usize, n: usize, v: &mut [i64; 16])
-    requires { ⌜ (n ≤ 16) × (k + n ≤ 256) × Within mostEntry a × Numbers mostAllowance (now x) × Numbers mostColumn (now v) ⌝ }
+    requires { ⌜ (n ≤ 16) × (k + n ≤ 256) × Within mostEntry a × Bounded mostAllowance (now x) × Bounded mostColumn (now v) ⌝ }
     ensures { λ _. ⌜ now (v .exit) ≡ added n (λ c. a *ℤ at (now (x .entry)) (k + c)) (now (v .entry)) ⌝ }
 {
     for c in 0..n {
-        v[c] = with_number(v[c], a, x[k + c]);
+        v[c] = with_term(v[c], a, x[k + c]);
     }
 }
 
@@ -63,7 +57,7 @@ fn add_rows(a: &[i32], p: usize, m: usize, x: &[i32; 256], k: usize, n: usize, v
 
 // Row m of a matrix, its diagonal left out, times each of the n columns of the block, into v.
 pub fn rest_sums(a: &[i32], r: Row, m: usize, x: &[i32; 256], n: usize, v: &mut [i64; 16])
-    requires { ⌜ RowIn (now a) 16 r m × (n ≤ 16) × Numbers mostAllowance (now x) × (now v ≡ replicate 16 (pos 0)) ⌝ }
+    requires { ⌜ RowIn (now a) 16 r m × (n ≤ 16) × Bounded mostAllowance (now x) × (now v ≡ replicate 16 (pos 0)) ⌝ }
     ensures { λ _. ⌜ now (v .exit) ≡ restSums (now (a .entry)) r m (now (x .entry)) n ⌝ }
 {
     let at = r.at;
@@ -73,48 +67,58 @@ pub fn rest_sums(a: &[i32], r: Row, m: usize, x: &[i32; 256], n: usize, v: &mut 
     add_rows(a, at + left, right, x, (m + 1) * n, n, v);
 }
 
-// Row m of a matrix, its diagonal own, times each of the n columns of the block, into v.
+// Row m of a matrix, its diagonal too, times each of the n columns of the block, into v.
 pub fn column_sums(
     a: &[i32],
     r: Row,
     m: usize,
-    own: i32,
+    diagonal: i32,
     x: &[i32; 256],
     n: usize,
     v: &mut [i64; 16],
 )
-    requires { ⌜ Band (now a) r m own × (n ≤ 16) × Numbers mostAllowance (now x) × (now v ≡ replicate 16 (pos 0)) ⌝ }
-    ensures { λ _. ⌜ now (v .exit) ≡ columnSums (now (a .entry)) r m own (now (x .entry)) n ⌝ }
+    requires { ⌜ Band (now a) r m diagonal × (n ≤ 16) × Bounded mostAllowance (now x) × (now v ≡ replicate 16 (pos 0)) ⌝ }
+    ensures { λ _. ⌜ now (v .exit) ≡ columnSums (now (a .entry)) r m diagonal (now (x .entry)) n ⌝ }
 {
     rest_sums(a, r, m, x, n, v);
-    add_row(own, x, m * n, n, v);
+    add_row(diagonal, x, m * n, n, v);
 }
 
-// Row m of a matrix, its diagonal own, times the sums v, where w stands in column m.
-pub fn whole_sum(a: &[i32], r: Row, m: usize, own: i32, v: &[i64; 16], w: i64) -> i64
-    requires { ⌜ Band (now a) r m own × Numbers mostColumn (now v) × Within mostOwn w ⌝ }
-    ensures { λ s. ⌜ s ≡ entriesSum (now (a .entry)) r m (at (now (v .entry))) +ℤ (own *ℤ w) ⌝ }
+// Row m of a matrix, its diagonal too, times the sums v, where w stands in column m.
+pub fn whole_sum(a: &[i32], r: Row, m: usize, diagonal: i32, v: &[i64; 16], w: i64) -> i64
+    requires { ⌜ Band (now a) r m diagonal × Bounded mostColumn (now v) × Within mostRest w ⌝ }
+    ensures { λ s. ⌜ s ≡ entriesSum (now (a .entry)) r m (at (now (v .entry))) +ℤ (diagonal *ℤ w) ⌝ }
 {
     let at = r.at;
     let left = r.left;
     let right = r.right;
     let sum = wide_sum(a, at, v, 0, left) + wide_sum(a, at + left, v, m + 1, right);
-    with_sum(sum, own, w)
+    with_sum(sum, diagonal, w)
 }
 
-// The sum of a column without the number x, whose weight is up.
-fn without(v: i64, up: i32, x: i32) -> i64
-    requires { ⌜ SFits w64 up × SFits w64 x × SFits w64 (up *ℤ x) × SFits w64 (v -ℤ (up *ℤ x)) ⌝ }
-    ensures { λ s. ⌜ s ≡ v -ℤ (up *ℤ x) ⌝ }
+// The sum of a column without the number x, which has that weight in it.
+fn without(v: i64, weight: i32, x: i32) -> i64
+    requires { ⌜ SFits w64 weight × SFits w64 x × SFits w64 (weight *ℤ x)
+        × SFits w64 (v -ℤ (weight *ℤ x)) ⌝ }
+    ensures { λ s. ⌜ s ≡ v -ℤ (weight *ℤ x) ⌝ }
 {
-    v - (up as i64) * (x as i64)
+    v - (weight as i64) * (x as i64)
 }
 
-// The sum of an element: row m of a matrix, its diagonal own, times the sums v of the element's row, less the own term. The number is x,
-// and up is the diagonal of the other matrix in the element's row.
-pub fn joint_sum(a: &[i32], r: Row, m: usize, own: i32, up: i32, v: &[i64; 16], x: i32) -> i64
-    requires { ⌜ Band (now a) r m own × Within mostEntry up × Numbers mostColumn (now v) × Within mostAllowance x ⌝ }
-    ensures { λ s. ⌜ s ≡ jointSum (now (a .entry)) r m own up (now (v .entry)) x ⌝ }
+// The sum of an element: row m of a matrix, its diagonal too, times the sums v of the element's row, less the own term. The
+// number is x, and other the diagonal of the other matrix in the element's row.
+pub fn joint_sum(
+    a: &[i32],
+    r: Row,
+    m: usize,
+    diagonal: i32,
+    other: i32,
+    v: &[i64; 16],
+    x: i32,
+) -> i64
+    requires { ⌜ Band (now a) r m diagonal × Within mostEntry other × Bounded mostColumn (now v)
+        × Within mostAllowance x ⌝ }
+    ensures { λ s. ⌜ s ≡ jointSum (now (a .entry)) r m diagonal other (now (v .entry)) x ⌝ }
 {
-    whole_sum(a, r, m, own, v, without(v[m], up, x))
+    whole_sum(a, r, m, diagonal, v, without(v[m], other, x))
 }

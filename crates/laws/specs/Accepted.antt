@@ -23,11 +23,13 @@ use Rattle.rules.specs.declared.Kind.{Kind}
 use Rattle.rules.specs.declared.Kind.the-variants.{Permutation, Lower, Upper, Single}
 use Rattle.rules.specs.declared.Mark.{Mark}
 use Rattle.rules.specs.Numbers.{mostOrder, mostCount, mostKind, mostEntry, at, count}
-use Rattle.rules.specs.Sheets.{on, _then_, times, same, among, below, unless, faultOf, one, kindOf, triangle, weights, body, factor, closed, head, reading}
+use Rattle.rules.specs.Sheets.{on, _then_, times, same, among, below, unless, faultOf, one, kindOf, triangle, weights, body}
+use Rattle.rules.specs.Sheets.{factor, closed, head, reading}
 use Rattle.rules.specs.Factors.{numbers, signsAt}
 use Rattle.rules.specs.Answers.{accepted, _or-else_, readAnswer, checked, further, start, matching, pairChecked}
 use Rattle.laws.specs.Tests.{same-eq, below-is, unless-true, Ranged, ranged, entry-within, among-other}
-use Rattle.laws.specs.Readers.{then-both, then-next, then-goes, Seen, one-seen, Stays, then-inside, times-inside, cond-inside, one-inside}
+use Rattle.laws.specs.Readers.{then-both, then-next, then-goes, Seen, one-seen, Stays, then-inside, times-inside}
+use Rattle.laws.specs.Readers.{cond-inside, one-inside}
 
 -- ---- what one number without fault is
 pub order-ranged : {s : List ℤ} {i : ℕ} → Seen s Order i → Ranged 1 mostOrder (at s i)
@@ -83,20 +85,20 @@ place-new {s} {n} {p} j k h l e =
     (omega arith) e
 
 -- ---- m numbers of one meaning, from place i on
-pub record Run (s : List ℤ) (what : Item) (m i : ℕ) : Type 0 where
+pub record Stretch (s : List ℤ) (what : Item) (m i : ℕ) : Type 0 where
   pub each : (k : ℕ) → k < m → Seen s what (i + k)
   pub next : times m (one s what) i ≡ on (i + m)
   pub room : i ≤ length s → i + m ≤ length s
 
 -- made of what each of them is
-pub run-of : (s : List ℤ) (what : Item) (m i : ℕ) → ((k : ℕ) → k < m → Seen s what (i + k)) → Run s what m i
+pub stretch-of : (s : List ℤ) (what : Item) (m i : ℕ) → ((k : ℕ) → k < m → Seen s what (i + k)) → Stretch s what m i
 unfolding times
-run-of s what zero i h = record { each = h; next = rw add-zero; room = λ l. omega arith }
-run-of s what (suc m) i h =
+stretch-of s what zero i h = record { each = h; next = rw add-zero; room = λ l. omega arith }
+stretch-of s what (suc m) i h =
     let o : Seen s what i = rw add-zero at (h 0 (omega arith)) in
     let shift : (k : ℕ) → k < m → Seen s what (i + 1 + k) =
     λ k l. let e : i + suc k ≡ i + 1 + k = omega arith in subst (λ (j : ℕ). Seen s what j) e (h (suc k) (omega arith)) in
-    let r = run-of s what m (i + 1) shift in
+    let r = stretch-of s what m (i + 1) shift in
     let e : i + 1 + m ≡ i + suc m = omega arith in
     record {
       each = h;
@@ -120,13 +122,13 @@ many-each s what (suc m) i h k l =
         let e : i + 1 + k ≡ i + suc k = omega arith in
         subst (λ (j : ℕ). Seen s what j) e (r k (omega arith))
 
-pub many-read : (s : List ℤ) (what : Item) (m i : ℕ) → times m (one s what) i .number ≡ 0 → Run s what m i
-many-read s what m i h = run-of s what m i (many-each s what m i h)
+pub many-read : (s : List ℤ) (what : Item) (m i : ℕ) → times m (one s what) i .number ≡ 0 → Stretch s what m i
+many-read s what m i h = stretch-of s what m i (many-each s what m i h)
 
 -- ---- n signs and m entries, from place i on
 pub record Weights (s : List ℤ) (n m i : ℕ) : Type 0 where
-  pub signs : Run s Sign n i
-  pub entries : Run s Entry m (i + n)
+  pub signs : Stretch s Sign n i
+  pub entries : Stretch s Entry m (i + n)
 
 pub weights-next : {s : List ℤ} {n m i : ℕ} → Weights s n m i → weights s n m i ≡ on (i + (n + m))
 unfolding weights
@@ -161,7 +163,7 @@ never h = let y : ⊥ = omega arith in absurd y
 
 -- what follows the kind number
 pub record BodyRead (s : List ℤ) (n : ℕ) (kind : Kind) (i : ℕ) : Type 0 where
-  pub places : kind ≡ Permutation → Run s (Place n (i + 1)) n (i + 1)
+  pub places : kind ≡ Permutation → Stretch s (Place n (i + 1)) n (i + 1)
   pub row : kind ≡ Single → Seen s (Row n) (i + 1)
   pub weights : kind ≢ Permutation → Weights s n (entriesOf n kind) (signsAt kind i)
 

@@ -21,16 +21,20 @@ use Rattle.rules.specs.declared.Kind.the-variants.{Permutation, Lower, Upper, S
 use Rattle.rules.specs.Numbers.{mostCount, unit, unit², bound, at, count}
 use Rattle.rules.specs.Sheets.{between, unless, faultOf, kindOf}
 use Rattle.rules.specs.Factors.{Factor, numbers, signsAt, entriesBefore, factorAt, factorsFrom, factors, hasEntry, matrix}
-use Rattle.rules.specs.Stages.{Rule, R, inside, Stage, move, weigh, off, weighed, forward, Ran, later, run, runForward}
-use Rattle.rules.specs.Shapes.{order, stageOf, lineStage, lineStages, jointSource, jointSign, jointWeight, jointStage, jointStages}
+use Rattle.rules.specs.declared.Rule.{Rule}
+use Rattle.rules.specs.Stages.{R, inside, Stage, move, weigh, off, weighed, forward, Ran, later, run, runForward}
+use Rattle.rules.specs.Shapes.{order, stageOf, lineStage, lineStages, jointSource, jointSign, jointWeight, jointStage}
+use Rattle.rules.specs.Shapes.{jointStages}
 use Rattle.rules.specs.Answers.{accepted, further, start, matching}
-use Rattle.rules.specs.Laws.Good.{AllMatch}
+use Rattle.rules.specs.Laws.GoodStages.{AllMatch}
 use Rattle.rules.specs.Laws.Kinds.{by-kind, stage-moves, stage-weighs}
 use Rattle.rules.specs.Laws.Lists.{fill-same}
 use Rattle.laws.specs.Readers.{Seen, one-fine}
-use Rattle.laws.specs.Accepted.{Run, run-of, Weights, entriesOf, BodyRead, FactorRead, further-first, further-add, further-least, Each, each-rest, each-more, Headed, Accepted, accepted-order, accepted-count}
+use Rattle.laws.specs.Accepted.{Stretch, stretch-of, Weights, entriesOf, BodyRead, FactorRead, further-first, further-add}
+use Rattle.laws.specs.Accepted.{further-least, Each, each-rest, each-more, Headed, Accepted, accepted-order, accepted-count}
 use Rattle.laws.specs.Prefix.{Moved, plain, place, Alike, fault-alike}
-use Rattle.laws.specs.Sound.{entry-inside, entry-kind, factors-length, factors-split, counts-agree, kinds-agree, matching-of}
+use Rattle.laws.specs.Sound.{entry-inside, entry-kind, factors-length, factors-split, counts-agree, kinds-agree}
+use Rattle.laws.specs.Sound.{matching-of}
 
 -- the sheet of k factors of s, from factor f on
 unfoldable pub cut : List ℤ → ℕ → ℕ → List ℤ
@@ -92,9 +96,9 @@ module _ {t s : List ℤ} {a b e : ℕ} (alike : Alike t s a b e) (room : (j i :
   seen-alike {w} {v} c j i l h k o = one-fine t w j (room j i h k) (fault-alike alike c j i l h k ∙ o .fine)
 
   run-alike :
-      {w v : Item} → Moved a b w v → (m j i : ℕ) → b ≤ i → i + m ≤ e → j + b ≡ i + a → Run s v m i → Run t w m j
+      {w v : Item} → Moved a b w v → (m j i : ℕ) → b ≤ i → i + m ≤ e → j + b ≡ i + a → Stretch s v m i → Stretch t w m j
   run-alike {w} {v} c m j i l h k o =
-      run-of t w m j (λ x y. seen-alike c (j + x) (i + x) (omega arith) (omega arith) (omega arith) (o .each x y))
+      stretch-of t w m j (λ x y. seen-alike c (j + x) (i + x) (omega arith) (omega arith) (omega arith) (o .each x y))
 
   weights-alike :
       (n m j i : ℕ) → b ≤ i → i + (n + m) ≤ e → j + b ≡ i + a → Weights s n m i → Weights t n m j
@@ -173,13 +177,13 @@ module _ {t s : List ℤ} {a b e : ℕ} (alike : Alike t s a b e) (room : (j i :
       }
 
   -- m factors of s from place i on, and where they stand in t
-  pub record Carried (n m j i : ℕ) : Type 0 where
+  pub record FactorsCarried (n m j i : ℕ) : Type 0 where
     pub each : Each t n m j
     pub end : further t n j m + b ≡ further s n i m + a
     pub same : AllSame n (factorsFrom s n m i) (factorsFrom t n m j)
 
   carried :
-      (n m j i : ℕ) → 1 ≤ n → b ≤ i → further s n i m ≤ e → j + b ≡ i + a → Each s n m i → Carried n m j i
+      (n m j i : ℕ) → 1 ≤ n → b ≤ i → further s n i m ≤ e → j + b ≡ i + a → Each s n m i → FactorsCarried n m j i
   unfolding further factorsFrom
   carried n zero j i p l h k g = record { each = λ f x. absurd (omega arith); end = k; same = AllSame.none }
   carried n (suc m) j i p l h k g =
@@ -259,7 +263,7 @@ module _ {s : List ℤ} (whole : Accepted s) (f k : ℕ) (some : 0 < k) (inside 
   cut-each g l =
       subst (λ (j : ℕ). FactorRead s n j) (further-add s n 2 f g) (whole .each (f + g) (omega arith))
 
-  cut-carried : Carried cut-alike cut-room n k 2 from
+  cut-carried : FactorsCarried cut-alike cut-room n k 2 from
   cut-carried =
       let x = to-is in
       carried cut-alike cut-room n k 2 from (accepted-order whole .least) (omega arith) (omega arith) (omega arith) cut-each

@@ -11,7 +11,8 @@ use lib.ListN.{length}
 use Rattle.rules.specs.declared.Answer.{Answer}
 use Rattle.rules.specs.Numbers.{count}
 use Rattle.rules.specs.Factors.{factors}
-use Rattle.rules.specs.Stages.{Rule, Ran, done, beyond, later, runForward}
+use Rattle.rules.specs.declared.Rule.{Rule}
+use Rattle.rules.specs.Stages.{Ran, done, beyond, later, runForward}
 use Rattle.rules.specs.Shapes.{lineStages, jointStages}
 use Rattle.rules.specs.Answers.{accepted, refused, checked, matching, pairChecked}
 use Rattle.rules.specs.Calls.{Reply, reply, Plan, line, joint, ranAnswer, ranMemory, forwardCall}
@@ -19,7 +20,9 @@ use Rattle.rules.specs.Laws.Runs.{follow, cut-forward}
 use Rattle.rules.specs.Laws.Cuts.{lines-append, lines-count, joints-append, joints-count}
 use Rattle.laws.specs.Accepted.{Accepted, accepted-read, checked-accepted, pair-read, pair-accepted}
 use Rattle.laws.specs.Sound.{sheets-match, counts-agree}
-use Rattle.laws.specs.Cut.{cut, cutFront, cutBack, cut-factors-count, cut-match, front-accepted, back-accepted, cut-factors, line-run-same, joint-run-same}
+use Rattle.laws.specs.Cut.{cut, cutFront, cutBack, cut-factors-count, cut-match, front-accepted, back-accepted, cut-factors}
+use Rattle.laws.specs.Cut.{line-run-same, joint-run-same}
+use Rattle.laws.specs.AnswersInTurn.{ranReply}
 use Rattle.laws.specs.Plans.{run-ready, forward-length}
 
 -- "a refusal of the second part has the first part's count added to its stage"
@@ -43,22 +46,20 @@ pub record CutLaw (rule : Rule) (p front back : Plan) (f : ℕ) : Type 0 where
       forwardCall rule p x y ≡ inTwo f (forwardCall rule front x middle) (λ u. forwardCall rule back u y) y
 
 -- ---- a call whose sheets and slices are right replies what its run gives
-ranReply : Ran → List ℤ → Reply ℤ
-ranReply ran y = reply (ranAnswer 11 ran) (ranMemory ran y) y
-
 ready : (rule : Rule) (p : Plan) (x y : List ℤ) → p .sheets .number ≡ 0 → length x ≡ p .size → length y ≡ p .size →
-    forwardCall rule p x y ≡ ranReply (runForward rule (p .size) (p .stages) x) y
-unfolding forwardCall ranReply
+    forwardCall rule p x y ≡ ranReply 11 (runForward rule (p .size) (p .stages) x) y
+unfolding forwardCall
 ready rule p x y = run-ready p (runForward rule (p .size) (p .stages) x) x y
 
-second-later : (f : ℕ) (r : Ran) (y : List ℤ) → ranReply (later f r) y ≡ farther f (ranReply r y)
-unfolding later farther reply ranReply ranAnswer ranMemory
+second-later : (f : ℕ) (r : Ran) (y : List ℤ) → ranReply 11 (later f r) y ≡ farther f (ranReply 11 r y)
+unfolding later farther reply ranAnswer ranMemory
 second-later f (done v) y = refl
 second-later f (beyond s) y = refl
 
 two-runs : (f : ℕ) (r : Ran) (next : List ℤ → Ran) (second : List ℤ → Reply ℤ) (middle y : List ℤ) →
-    ((v : List ℤ) → r ≡ done v → second v ≡ ranReply (next v) y) → ranReply (follow f r next) y ≡ inTwo f (ranReply r middle) second y
-unfolding follow inTwo reply ranReply ranAnswer ranMemory
+    ((v : List ℤ) → r ≡ done v → second v ≡ ranReply 11 (next v) y) →
+    ranReply 11 (follow f r next) y ≡ inTwo f (ranReply 11 r middle) second y
+unfolding follow inTwo reply ranAnswer ranMemory
 two-runs f (done v) next second middle y h = second-later f (next v) y ∙ ap (farther f) (sym (h v refl))
 two-runs f (beyond s) next second middle y h = refl
 
@@ -80,7 +81,12 @@ module _
         (λ v h.
         let k = forward-length rule (front .size) (front .stages) x v h in
         ready rule back v y (ap (λ (z : Answer). z .number) second) (k ∙ l ∙ sym b) (n ∙ sym b)) in
-        rw (ready rule p x y whole l n, runs x, ready rule front x middle (ap (λ (z : Answer). z .number) first) (l ∙ sym a) (m ∙ sym a)) g;
+        rw (
+          ready rule p x y whole l n,
+          runs x,
+          ready rule front x middle (ap (λ (z : Answer). z .number) first) (l ∙ sym a)
+              (m ∙ sym a),
+        ) g;
   }
 
 -- ---- a line sheet

@@ -3,6 +3,7 @@ pub mod Readers
 pub mod Accepted
 pub mod First
 pub mod Low
+pub mod AnswersInTurn
 pub mod Prefix
 pub mod Sound
 pub mod Cut

@@ -18,7 +18,8 @@ use Rattle.rules.specs.Sheets.{kindOf}
 use Rattle.rules.specs.Factors.{numbers, signsAt}
 use Rattle.rules.specs.Answers.{further}
 use Rattle.laws.specs.Readers.{Seen}
-use Rattle.laws.specs.Accepted.{order-ranged, count-ranged, kind-ranged, sign-is, entry-is, row-is, place-is, Run, Weights, entriesOf, never, BodyRead, FactorRead, Each, Accepted, accepted-order}
+use Rattle.laws.specs.Accepted.{order-ranged, count-ranged, kind-ranged, sign-is, entry-is, row-is, place-is, Stretch}
+use Rattle.laws.specs.Accepted.{Weights, entriesOf, never, BodyRead, FactorRead, Each, Accepted, accepted-order}
 
 -- the numbers from place i to place j
 pub record Low (s : List ℤ) (i j : ℕ) : Type 0 where
@@ -54,7 +55,7 @@ seen-low Sign f h =
     ⊎-elim (λ e. rw e (record { within = omega arith })) (λ e. rw e (record { within = omega arith })) (sign-is h)
 seen-low Entry f h = entry-is h
 
-run-low : {s : List ℤ} {m i : ℕ} (what : Item) → Fine what → Run s what m i → Low s i (i + m)
+run-low : {s : List ℤ} {m i : ℕ} (what : Item) → Fine what → Stretch s what m i → Low s i (i + m)
 run-low {s} {m} {i} what f h = record {
   low = λ k p q.
       let e : i + (k - i) ≡ k = omega arith in

@@ -11,12 +11,14 @@ use borrow.Author.Tests.{eq-eqb, ne-eqb}
 use lib.IntN.{ℤ, pos}
 use lib.ListN.{length, replicate, length-replicate}
 use Rattle.rules.specs.declared.Answer.{Answer}
-use Rattle.rules.specs.Stages.{Rule, Stage, forward, undo, allow, Ran, done, beyond, run, through, runForward, runInverse, runAllowance}
+use Rattle.rules.specs.declared.Rule.{Rule}
+use Rattle.rules.specs.Stages.{Stage, forward, undo, allow, Ran, done, beyond, run, through, runForward, runInverse, runAllowance}
 use Rattle.rules.specs.Answers.{accepted, _or-else_}
-use Rattle.rules.specs.Calls.{Gives, reply, Plan, line, joint, sized, ranAnswer, ranMemory, runReply, forwardCall, inverseCall, allowanceCall}
-use Rattle.rules.specs.Laws.Good.{AllGood}
-use Rattle.rules.specs.Laws.Back.{length-forward, length-undo}
-use Rattle.rules.specs.Laws.Near.{length-allow}
+use Rattle.rules.specs.Calls.{Gives, reply, Plan, line, joint, sized, ranAnswer, ranMemory, runReply, forwardCall, inverseCall}
+use Rattle.rules.specs.Calls.{allowanceCall}
+use Rattle.rules.specs.Laws.GoodStages.{AllGood}
+use Rattle.rules.specs.Laws.Inverses.{length-forward, length-undo}
+use Rattle.rules.specs.Laws.AllowanceLaw.{length-allow}
 use Rattle.rules.specs.Laws.Runs.{run-through}
 use Rattle.rules.specs.Laws.Kinds.{lines-good, joints-good}
 use Rattle.laws.specs.Accepted.{accepted-read, both-fine, pair-read}
@@ -77,7 +79,8 @@ pub run-ready : (p : Plan) (ran : Ran) (x y : List ℤ) → p .sheets .number �
 unfolding runReply _or-else_
 run-ready p ran x y h l k = rw (eq-eqb (p .sheets .number) 0 h, sized-is 0 (p .size) x l, sized-is 1 (p .size) y k)
 
-run-fills : (p : Plan) (ran : Ran) (x y c : List ℤ) → length x ≡ p .size → Filled p ran y c → Gives accepted c (runReply p ran x y)
+run-fills : (p : Plan) (ran : Ran) (x y c : List ℤ) → length x ≡ p .size → Filled p ran y c →
+    Gives accepted c (runReply p ran x y)
 unfolding reply ranAnswer ranMemory
 run-fills p ran x y c l f = rw (run-ready p ran x y (f .sheets) l (f .output), f .gives) (refl, refl)
 
@@ -117,7 +120,8 @@ module _ (rule : Rule) (N : ℕ) (ss : List Stage) (x y : List ℤ) where
 
 pub allowance-length : (rule : Rule) (N : ℕ) (ss : List Stage) (b : List ℤ) → runAllowance rule N ss ≡ done b → length b ≡ N
 unfolding runAllowance
-allowance-length rule N ss b h = run-length (allow rule N) (length-allow rule N) _ ss (replicate N (pos 0)) b h ∙ length-replicate N (pos 0)
+allowance-length rule N ss b h =
+    run-length (allow rule N) (length-allow rule N) _ ss (replicate N (pos 0)) b h ∙ length-replicate N (pos 0)
 
 -- ---- the three calls
 module _ (rule : Rule) (p : Plan) where
@@ -138,7 +142,8 @@ module _ (rule : Rule) (p : Plan) where
       let a = both-fine (p .sheets) _ h in
       rw (eq-eqb _ 0 h) (ends 12 p (runAllowance rule (p .size) (p .stages)) y (a .0) (a .1))
 
-  allowance-fills : (y b : List ℤ) → Filled p (runAllowance rule (p .size) (p .stages)) y b → Gives accepted b (allowanceCall rule p y)
+  allowance-fills : (y b : List ℤ) → Filled p (runAllowance rule (p .size) (p .stages)) y b →
+      Gives accepted b (allowanceCall rule p y)
   unfolding allowanceCall reply ranAnswer ranMemory _or-else_
   allowance-fills y b f = rw (eq-eqb (p .sheets .number) 0 (f .sheets), sized-is 1 (p .size) y (f .output), f .gives) (refl, refl)
 

@@ -16,12 +16,14 @@ use Rattle.rules.specs.declared.Kind.{Kind}
 use Rattle.rules.specs.declared.Kind.the-variants.{Permutation, Lower, Upper, Single}
 use Rattle.rules.specs.declared.Mark.{Mark}
 use Rattle.rules.specs.Numbers.{mostOrder, at, count}
-use Rattle.rules.specs.Sheets.{on, _then_, times, among, faultOf, one, kindOf, triangle, weights, body, factor, closed, head, reading}
+use Rattle.rules.specs.Sheets.{on, _then_, times, among, faultOf, one, kindOf, triangle, weights, body, factor, closed, head}
+use Rattle.rules.specs.Sheets.{reading}
 use Rattle.rules.specs.Factors.{numbers}
 use Rattle.rules.specs.Answers.{readAnswer, checked, further, start}
 use Rattle.laws.specs.Tests.{triangle-most}
 use Rattle.laws.specs.Readers.{then-stop, then-both, then-next, then-same, one-seen}
-use Rattle.laws.specs.Accepted.{order-ranged, count-ranged, many-read, factor-next, factor-read, factors-read, Headed, head-next, headed, upToEnd, up-to-end, Accepted, accepted-order, accepted-count}
+use Rattle.laws.specs.Accepted.{order-ranged, count-ranged, many-read, factor-next, factor-read, factors-read, Headed}
+use Rattle.laws.specs.Accepted.{head-next, headed, upToEnd, up-to-end, Accepted, accepted-order, accepted-count}
 
 -- ---- the longest sheet
 -- the length of the longest sheet, and of its longest factor

@@ -1,5 +1,5 @@
--- WHAT A USER IS PROMISED of the calls of document 01: demands 2 and 3 over any plan, then for a line sheet and for a pair with no
--- hypothesis but that the calls are accepted; refused calls leave memory alone; a reply leaves one answer. Assumes nothing.
+-- WHAT A USER IS PROMISED of the calls of document 01: demands 2 and 3 over any plan, then for a line sheet and for a pair with
+-- no hypothesis but that the calls are accepted; refused calls leave memory alone; a reply leaves one answer. Assumes nothing.
 use mathlib.Core.List.{List}
 use mathlib.Core.Path.{_≡_, sym, ap, _∙_}
 use Prim.Native.Nat.{ℕ, _*_, _^_, _<_}
@@ -11,15 +11,18 @@ use lib.Signed.{_≤ℤ_}
 use Rattle.rules.specs.declared.Answer.{Answer}
 use Rattle.rules.specs.Numbers.{unit, unit², at, count}
 use Rattle.rules.specs.Factors.{factors}
-use Rattle.rules.specs.Stages.{Rule, exactProduct, exactScale}
+use Rattle.rules.specs.declared.Rule.{Rule}
+use Rattle.rules.specs.Stages.{exactProduct, exactScale}
 use Rattle.rules.specs.Answers.{accepted, pairChecked}
-use Rattle.rules.specs.Calls.{Reply, Gives, reply, read, write, writeTable, Plan, line, joint, runReply, forwardCall, inverseCall, allowanceCall}
+use Rattle.rules.specs.Calls.{Reply, Gives, reply, read, write, writeTable, Plan, line, joint, runReply, forwardCall, inverseCall}
+use Rattle.rules.specs.Calls.{allowanceCall}
 use Rattle.rules.specs.Laws.Runs.{there-and-back, back-and-there}
-use Rattle.rules.specs.Laws.Near as Near
+use Rattle.rules.specs.Laws.AllowanceLaw as Near
 use Rattle.rules.specs.Laws.Cuts.{lines-scale, joints-scale}
 use Rattle.laws.specs.Accepted.{pair-read}
 use Rattle.laws.specs.Sound.{factors-length, counts-agree}
-use Rattle.laws.specs.Plans.{GoodPlan, line-plan, joint-plan, forward-length, inverse-length, forward-gives, inverse-gives, allowance-gives}
+use Rattle.laws.specs.Plans.{GoodPlan, line-plan, joint-plan, forward-length, inverse-length, forward-gives, inverse-gives}
+use Rattle.laws.specs.Plans.{allowance-gives}
 
 -- a call, with some slice lent, is accepted and leaves c in that slice
 pub record Fills (call : List ℤ → Reply ℤ) (c : List ℤ) : Type 0 where
@@ -36,10 +39,12 @@ D p = exactScale (p .stages)
 pub record Promises (rule : Rule) (p : Plan) : Type 0 where
   -- demand 2: coefficients that a forward call gave come back as the block, whatever the lent slice z had
   pub back-again :
-      (x z : List ℤ) {c : List ℤ} → length z ≡ p .size → Fills (forwardCall rule p x) c → Gives accepted x (inverseCall rule p c z)
+      (x z : List ℤ) {c : List ℤ} → length z ≡ p .size → Fills (forwardCall rule p x) c →
+      Gives accepted x (inverseCall rule p c z)
   -- and a block that an inverse call gave comes back as the coefficients
   pub there-again :
-      (y z : List ℤ) {x : List ℤ} → length z ≡ p .size → Fills (inverseCall rule p y) x → Gives accepted y (forwardCall rule p x z)
+      (y z : List ℤ) {x : List ℤ} → length z ≡ p .size → Fills (inverseCall rule p y) x →
+      Gives accepted y (forwardCall rule p x z)
   -- demand 3: "4096·|D·y - E| ≤ D·b"
   pub within-allowance :
       (x : List ℤ) {y b : List ℤ} → Fills (allowanceCall rule p) b → Fills (forwardCall rule p x) y → (e : ℕ) → e < p .size →
@@ -47,7 +52,8 @@ pub record Promises (rule : Rule) (p : Plan) : Type 0 where
   -- "4096·|F(x) - F(z) - F(x-z)| ≤ 3·b", where u is x - z element by element
   pub difference :
       (x z u : List ℤ) {fx fz fu b : List ℤ} → ((e : ℕ) → e < p .size → at u e ≡ at x e -ℤ at z e) →
-      Fills (allowanceCall rule p) b → Fills (forwardCall rule p x) fx → Fills (forwardCall rule p z) fz → Fills (forwardCall rule p u) fu →
+      Fills (allowanceCall rule p) b → Fills (forwardCall rule p x) fx → Fills (forwardCall rule p z) fz →
+      Fills (forwardCall rule p u) fu →
       (e : ℕ) → e < p .size → pos (unit * natAbs ((at fx e -ℤ at fz e) -ℤ at fu e)) ≤ℤ (pos 3 *ℤ at b e)
 
 module _ (rule : Rule) {p : Plan} (plan : GoodPlan p) where

@@ -1,4 +1,5 @@
--- THE PROMISES, OF WHAT CALLS RETURNED: a call whose contract is `Gives a m q` answered a and left m in the slice that it was lent.
+-- THE PROMISES, OF WHAT CALLS RETURNED: a call whose contract is `Gives a m q` answered a and left m in the slice that it was
+-- lent.
 -- Over any plan for which the promises hold; the crates that own the calls cite these for a line and for a rectangle.
 use mathlib.Core.List.{List}
 use mathlib.Core.Path.{_≡_, sym, ap, _∙_}
@@ -8,7 +9,7 @@ use lib.ListN.{length}
 use lib.Signed.{_≤ℤ_}
 use Rattle.rules.specs.declared.Answer.{Answer}
 use Rattle.rules.specs.Numbers.{unit, at}
-use Rattle.rules.specs.Stages.{Rule}
+use Rattle.rules.specs.declared.Rule.{Rule}
 use Rattle.rules.specs.Answers.{accepted}
 use Rattle.rules.specs.Calls.{Reply, Gives, Plan, forwardCall, inverseCall, allowanceCall}
 use Rattle.laws.specs.Plans.{forward-accepted, inverse-accepted, allowance-accepted}
@@ -47,14 +48,17 @@ module _ {rule : Rule} {p : Plan} (promises : Promises rule p) where
 
   -- each coefficient is within its allowance of the exact product
   pub returned-near :
-      (x y z : List ℤ) {c b : List ℤ} → Accepts b (allowanceCall rule p z) → Accepts c (forwardCall rule p x y) → (e : ℕ) → e < p .size →
+      (x y z : List ℤ) {c b : List ℤ} → Accepts b (allowanceCall rule p z) → Accepts c (forwardCall rule p x y) → (e : ℕ) →
+      e < p .size →
       pos (unit * natAbs ((pos (D p) *ℤ at c e) -ℤ at (E p x) e)) ≤ℤ (pos (D p) *ℤ at b e)
   returned-near x y z g h e l = promises .within-allowance x (allowance-fills z g) (forward-fills x y h) e l
 
   -- a difference of coefficients is within three allowances of the coefficients of the difference
   pub returned-difference :
       (x z u y₁ y₂ y₃ y₄ : List ℤ) {fx fz fu b : List ℤ} → ((e : ℕ) → e < p .size → at u e ≡ at x e -ℤ at z e) →
-      Accepts b (allowanceCall rule p y₁) → Accepts fx (forwardCall rule p x y₂) → Accepts fz (forwardCall rule p z y₃) → Accepts fu (forwardCall rule p u y₄) →
+      Accepts b (allowanceCall rule p y₁) → Accepts fx (forwardCall rule p x y₂) → Accepts fz (forwardCall rule p z y₃) →
+      Accepts fu (forwardCall rule p u y₄) →
       (e : ℕ) → e < p .size → pos (unit * natAbs ((at fx e -ℤ at fz e) -ℤ at fu e)) ≤ℤ (pos 3 *ℤ at b e)
   returned-difference x z u y₁ y₂ y₃ y₄ less g hx hz hu e l =
-      promises .difference x z u less (allowance-fills y₁ g) (forward-fills x y₂ hx) (forward-fills z y₃ hz) (forward-fills u y₄ hu) e l
+      promises .difference x z u less (allowance-fills y₁ g) (forward-fills x y₂ hx) (forward-fills z y₃ hz)
+      (forward-fills u y₄ hu) e l

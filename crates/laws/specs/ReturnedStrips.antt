@@ -1,5 +1,6 @@
--- THE PROMISES OF STRIPS, OF WHAT CALLS RETURNED: a call whose contract is `GivesStrip a m bs (strip p call x y b)` answered a and left m
--- in the output and bs in the bytes. Over any plan; the crate that owns the calls cites these for both shapes. Assumes nothing.
+-- THE PROMISES OF STRIPS, OF WHAT CALLS RETURNED: a call whose contract is `GivesStrip a m bs (strip p call x y b)` answered a
+-- and left m in the output and bs in the bytes. Over any plan; the crate that owns the calls cites these for both shapes. Assumes
+-- nothing.
 use mathlib.Core.Bool.{cond}
 use mathlib.Core.List.{List, _++_, append-assoc}
 use mathlib.Core.Logic.{_⊎_, _≢_}
@@ -15,14 +16,16 @@ use lib.Seq.{length-take-le, drop-drop, drop-at}
 use lib.Signed.{_≤ℤ_}
 use Rattle.rules.specs.declared.Answer.{Answer}
 use Rattle.rules.specs.Numbers.{unit, at}
-use Rattle.rules.specs.Stages.{Rule}
+use Rattle.rules.specs.declared.Rule.{Rule}
 use Rattle.rules.specs.Answers.{accepted}
 use Rattle.rules.specs.Calls.{Reply, Plan, forwardCall, inverseCall, allowanceCall}
 use Rattle.rules.specs.Strips.{StripReply, GivesStrip, block, blockReply, outputs, bytesOf, stripAnswer, strip}
 use Rattle.laws.specs.CutLaw.{farther, inTwo, CutLaw}
 use Rattle.laws.specs.Promises.{E, D, Promises}
 use Rattle.laws.specs.Returned.{Accepts, returned-back, returned-there, returned-near, returned-difference}
-use Rattle.laws.specs.Strips.{BlockCall, forward-block, inverse-block, StripFits, byte-of, bytes-length, output-of, outputs-length, block-length, block-fits, block-front, strip-fits, strip-accepted, strip-ran, strip-found, strip-answer}
+use Rattle.laws.specs.Strips.{BlockCall, forward-block, inverse-block, StripFits, byte-of, bytes-length, output-of}
+use Rattle.laws.specs.Strips.{outputs-length, block-length, block-fits, block-front, strip-fits, strip-accepted, strip-ran}
+use Rattle.laws.specs.Strips.{strip-found, strip-answer}
 
 -- ---- "the statement about its result leaves one answer and one state of lent memory"
 pub one-strip :
@@ -31,19 +34,22 @@ pub one-strip :
 one-strip q g h = (g .0 ∙ sym (h .0), g .1 ∙ sym (h .1), g .2 ∙ sym (h .2))
 
 -- a strip's call, lent x, y and b, answered 0 and left m and bs
-pub record StripGave (p : Plan) (call : List ℤ → List ℤ → Reply ℤ) (x y : List ℤ) (b : List ℕ) (m : List ℤ) (bs : List ℕ) : Type 0 where
+pub record StripGave (p : Plan) (call : List ℤ → List ℤ → Reply ℤ) (x y : List ℤ) (b : List ℕ) (m : List ℤ) (bs : List ℕ) : Type
+    0 where
   pub answer : Answer
   pub gives : GivesStrip answer m bs (strip p call x y b)
   pub zero : answer .number ≡ 0
 
 module _ (p : Plan) (call : List ℤ → List ℤ → Reply ℤ) (x y : List ℤ) (b : List ℕ) where
   -- "Refused calls leave lent memory untouched"
-  pub refused-strip : {a : Answer} {m : List ℤ} {bs : List ℕ} → GivesStrip a m bs (strip p call x y b) → (a .number ≡ 0 → ⊥) → (m ≡ y) × (bs ≡ b)
+  pub refused-strip : {a : Answer} {m : List ℤ} {bs : List ℕ} → GivesStrip a m bs (strip p call x y b) → (a .number ≡ 0 → ⊥) →
+      (m ≡ y) × (bs ≡ b)
   refused-strip {a} g h =
       let e = strip-found p call x y b (λ z. h (ap (λ (c : Answer). c .number) (g .0 ∙ strip-answer p call x y b) ∙ z)) in
       (g .1 ∙ ap (λ (q : StripReply). q .output) e, g .2 ∙ ap (λ (q : StripReply). q .bytes) e)
 
-module _ {p : Plan} {call : List ℤ → List ℤ → Reply ℤ} (whole : BlockCall p call) {x y m : List ℤ} {b bs : List ℕ} (h : StripGave p call x y b m bs) where
+module _ {p : Plan} {call : List ℤ → List ℤ → Reply ℤ} (whole : BlockCall p call) {x y m : List ℤ} {b bs : List ℕ}
+    (h : StripGave p call x y b m bs) where
   fine : stripAnswer p x y b .number ≡ 0
   fine = ap (λ (a : Answer). a .number) (sym (h .gives .0 ∙ strip-answer p call x y b)) ∙ h .zero
 
@@ -58,25 +64,34 @@ module _ {p : Plan} {call : List ℤ → List ℤ → Reply ℤ} (whole : BlockC
   bytes-are = h .gives .2 ∙ ap (λ (q : StripReply). q .bytes) (strip-ran p call x y b fine)
 
   pub output-long : length m ≡ length b * p .size
-  output-long = rw output-is (outputs-length p call whole x y (length b) (omega (arith, accepted-fits .input)) (omega (arith, accepted-fits .output)))
+  output-long =
+      rw output-is (outputs-length p call whole x y (length b) (omega (arith, accepted-fits .input))
+      (omega (arith, accepted-fits .output)))
 
   pub bytes-long : length bs ≡ length b
   bytes-long = rw bytes-are (bytes-length p call x y (length b))
 
   module _ (k : ℕ) (l : k < length b) where
     -- "Each block gets its single call's output and, in its byte, the number"
-    pub each-block : (block (p .size) k m ≡ blockReply p call x y k .memory) × (getD bs k 0 ≡ blockReply p call x y k .answer .number)
-    each-block =
-        (rw output-is (output-of p call whole x y (length b) k (omega (arith, accepted-fits .input)) (omega (arith, accepted-fits .output)) l), rw bytes-are (byte-of p call x y (length b) k l))
+    pub each-block : (block (p .size) k m ≡ blockReply p call x y k .memory)
+        × (getD bs k 0 ≡ blockReply p call x y k .answer .number)
+    each-block = (
+      rw output-is (output-of p call whole x y (length b) k (omega (arith, accepted-fits .input))
+          (omega (arith, accepted-fits .output)) l),
+      rw bytes-are (byte-of p call x y (length b) k l),
+    )
 
     -- the same by another word for the size
-    each-block-of : (n : ℕ) → p .size ≡ n → (block n k m ≡ call (block n k x) (block n k y) .memory) × (getD bs k 0 ≡ call (block n k x) (block n k y) .answer .number)
+    each-block-of : (n : ℕ) → p .size ≡ n → (block n k m ≡ call (block n k x) (block n k y) .memory)
+        × (getD bs k 0 ≡ call (block n k x) (block n k y) .answer .number)
     each-block-of n e =
-        subst (λ (i : ℕ). (block i k m ≡ call (block i k x) (block i k y) .memory) × (getD bs k 0 ≡ call (block i k x) (block i k y) .answer .number)) e each-block
+        subst (λ (i : ℕ). (block i k m ≡ call (block i k x) (block i k y) .memory)
+        × (getD bs k 0 ≡ call (block i k x) (block i k y) .answer .number)) e each-block
 
     -- a block whose byte is 0: its single call is accepted, so demands 2 and 3 are those of the single call
     pub block-accepts : getD bs k 0 ≡ 0 → Accepts (block (p .size) k m) (blockReply p call x y k)
-    block-accepts e = record { answer = blockReply p call x y k .answer; gives = (refl, each-block .0); zero = sym (each-block .1) ∙ e }
+    block-accepts e =
+        record { answer = blockReply p call x y k .answer; gives = (refl, each-block .0); zero = sym (each-block .1) ∙ e }
 
     -- "A block refused for range keeps its part of the output as found"
     pub block-kept : (getD bs k 0 ≡ 0 → ⊥) → block (p .size) k m ≡ block (p .size) k y
@@ -117,14 +132,16 @@ other-block n j k u v l f d = split (decLt k j)
     split (no h) =
         let e : j * n + n + (k * n - (j * n + n)) ≡ k * n = omega (arith, block-fits j k n (omega arith)) in
         let t = k * n - (j * n + n) in
-        let w : drop (j * n + n) (changed n j u v) ≡ drop (j * n + n) v = drop-at (front ++ u) (drop (j * n + n) v) (j * n + n) (length-append front u ∙ rw (front-long, l)) in
+        let w : drop (j * n + n) (changed n j u v) ≡ drop (j * n + n) v = drop-at (front ++ u) (drop (j * n + n) v) (j * n + n)
+        (length-append front u ∙ rw (front-long, l)) in
         ap (take n) (rw (← e) (sym (drop-drop t (j * n + n) (changed n j u v)) ∙ ap (drop t) w ∙ drop-drop t (j * n + n) v))
 
 -- a block's output and byte are made of that block alone
 pub same-block :
     {p : Plan} {call : List ℤ → List ℤ → Reply ℤ} (whole : BlockCall p call)
     {x y m x′ y′ m′ : List ℤ} {b bs b′ bs′ : List ℕ} → StripGave p call x y b m bs → StripGave p call x′ y′ b′ m′ bs′ →
-    (k : ℕ) → k < length b → k < length b′ → block (p .size) k x ≡ block (p .size) k x′ → block (p .size) k y ≡ block (p .size) k y′ →
+    (k : ℕ) → k < length b → k < length b′ → block (p .size) k x ≡ block (p .size) k x′ →
+    block (p .size) k y ≡ block (p .size) k y′ →
     (block (p .size) k m ≡ block (p .size) k m′) × (getD bs k 0 ≡ getD bs′ k 0)
 same-block {p} {call} whole h g k l i e d =
     let a = each-block whole h k l in
@@ -137,7 +154,8 @@ pub change-one :
     StripGave p call x y b m bs → StripGave p call (changed (p .size) j u x) y b m′ bs′ →
     (k : ℕ) → k < length b → k ≢ j → (block (p .size) k m′ ≡ block (p .size) k m) × (getD bs′ k 0 ≡ getD bs k 0)
 change-one {p} whole {x} j u i l h g k n d =
-    same-block whole g h k n n (other-block (p .size) j k u x l (omega (arith, block-fits j _ (p .size) i, accepted-fits whole h .input)) d) refl
+    same-block whole g h k n n (other-block (p .size) j k u x l
+    (omega (arith, block-fits j _ (p .size) i, accepted-fits whole h .input)) d) refl
 
 -- ---- request R-1 of any plan and any single call over it
 pub record StripPromises (p : Plan) (call : List ℤ → List ℤ → Reply ℤ) : Type 0 where
@@ -158,10 +176,12 @@ pub record StripPromises (p : Plan) (call : List ℤ → List ℤ → Reply ℤ)
       {x y m : List ℤ} {b bs : List ℕ} → StripGave p call x y b m bs → (k : ℕ) → k < length b →
       (block (p .size) k m ≡ blockReply p call x y k .memory) × (getD bs k 0 ≡ blockReply p call x y k .answer .number)
   -- nothing stands beside the blocks and their bytes
-  pub long : {x y m : List ℤ} {b bs : List ℕ} → StripGave p call x y b m bs → (length m ≡ length b * p .size) × (length bs ≡ length b)
+  pub long : {x y m : List ℤ} {b bs : List ℕ} → StripGave p call x y b m bs → (length m ≡ length b * p .size)
+      × (length bs ≡ length b)
   -- "0 or 11"
   pub number :
-      {x y m : List ℤ} {b bs : List ℕ} → StripGave p call x y b m bs → (k : ℕ) → k < length b → (getD bs k 0 ≡ 0) ⊎ (getD bs k 0 ≡ 11)
+      {x y m : List ℤ} {b bs : List ℕ} → StripGave p call x y b m bs → (k : ℕ) → k < length b →
+      (getD bs k 0 ≡ 0) ⊎ (getD bs k 0 ≡ 11)
   -- "A block refused for range keeps its part of the output as found"
   pub kept :
       {x y m : List ℤ} {b bs : List ℕ} → StripGave p call x y b m bs → (k : ℕ) → k < length b → (getD bs k 0 ≡ 0 → ⊥) →
@@ -195,67 +215,82 @@ next-blocks {p} whole {q} e h f =
 module _ {rule : Rule} {p : Plan} (promises : Promises rule p) where
   -- demand 2: the inverse strip on what a forward strip left gives back each block whose byte is 0, whatever it is lent
   pub strip-back :
-      {x y m z u : List ℤ} {b bs d ds : List ℕ} → StripGave p (forwardCall rule p) x y b m bs → StripGave p (inverseCall rule p) m z d u ds →
+      {x y m z u : List ℤ} {b bs d ds : List ℕ} → StripGave p (forwardCall rule p) x y b m bs →
+      StripGave p (inverseCall rule p) m z d u ds →
       (k : ℕ) → k < length b → getD bs k 0 ≡ 0 → (getD ds k 0 ≡ 0) × (block (p .size) k u ≡ block (p .size) k x)
   strip-back {x} {y} {m} {z} {u} {b} {bs} {d} h g k l e =
       let i : k < length d = omega (arith, next-blocks (forward-block rule p) refl h (accepted-fits (inverse-block rule p) g)) in
       let a = each-block (inverse-block rule p) g k i in
-      let r = returned-back promises (block (p .size) k x) (block (p .size) k y) (block (p .size) k z) (found-block (inverse-block rule p) g k i)
+      let r = returned-back promises (block (p .size) k x) (block (p .size) k y) (block (p .size) k z)
+      (found-block (inverse-block rule p) g k i)
       (block-accepts (forward-block rule p) h k l e) (refl, refl) in
       (a .1 ∙ ap (λ (c : Answer). c .number) (r .0), a .0 ∙ r .1)
 
   -- and the forward strip on what an inverse strip left
   pub strip-there :
-      {x y m z u : List ℤ} {b bs d ds : List ℕ} → StripGave p (inverseCall rule p) x y b m bs → StripGave p (forwardCall rule p) m z d u ds →
+      {x y m z u : List ℤ} {b bs d ds : List ℕ} → StripGave p (inverseCall rule p) x y b m bs →
+      StripGave p (forwardCall rule p) m z d u ds →
       (k : ℕ) → k < length b → getD bs k 0 ≡ 0 → (getD ds k 0 ≡ 0) × (block (p .size) k u ≡ block (p .size) k x)
   strip-there {x} {y} {m} {z} {u} {b} {bs} {d} h g k l e =
       let i : k < length d = omega (arith, next-blocks (inverse-block rule p) refl h (accepted-fits (forward-block rule p) g)) in
       let a = each-block (forward-block rule p) g k i in
-      let r = returned-there promises (block (p .size) k x) (block (p .size) k y) (block (p .size) k z) (found-block (forward-block rule p) g k i)
+      let r = returned-there promises (block (p .size) k x) (block (p .size) k y) (block (p .size) k z)
+      (found-block (forward-block rule p) g k i)
       (block-accepts (inverse-block rule p) h k l e) (refl, refl) in
       (a .1 ∙ ap (λ (c : Answer). c .number) (r .0), a .0 ∙ r .1)
 
   -- demand 3: each coefficient of a block whose byte is 0 is within its allowance of the exact product
   pub strip-near :
-      {x y m : List ℤ} {b bs : List ℕ} (z : List ℤ) {w : List ℤ} → Accepts w (allowanceCall rule p z) → StripGave p (forwardCall rule p) x y b m bs →
+      {x y m : List ℤ} {b bs : List ℕ} (z : List ℤ) {w : List ℤ} → Accepts w (allowanceCall rule p z) →
+      StripGave p (forwardCall rule p) x y b m bs →
       (k : ℕ) → k < length b → getD bs k 0 ≡ 0 → (e : ℕ) → e < p .size →
       pos (unit * natAbs ((pos (D p) *ℤ at (block (p .size) k m) e) -ℤ at (E p (block (p .size) k x)) e)) ≤ℤ (pos (D p) *ℤ at w e)
-  strip-near {x} {y} z g h k l i = returned-near promises (block (p .size) k x) (block (p .size) k y) z g (block-accepts (forward-block rule p) h k l i)
+  strip-near {x} {y} z g h k l i =
+      returned-near promises (block (p .size) k x) (block (p .size) k y) z g (block-accepts (forward-block rule p) h k l i)
 
   -- and a difference of coefficients within three: block k of three strips, the third the difference of the other two
   pub strip-difference :
-      {x₁ x₂ x₃ y₁ y₂ y₃ m₁ m₂ m₃ : List ℤ} {b₁ b₂ b₃ bs₁ bs₂ bs₃ : List ℕ} (z : List ℤ) {w : List ℤ} → Accepts w (allowanceCall rule p z) →
-      StripGave p (forwardCall rule p) x₁ y₁ b₁ m₁ bs₁ → StripGave p (forwardCall rule p) x₂ y₂ b₂ m₂ bs₂ → StripGave p (forwardCall rule p) x₃ y₃ b₃ m₃ bs₃ →
+      {x₁ x₂ x₃ y₁ y₂ y₃ m₁ m₂ m₃ : List ℤ} {b₁ b₂ b₃ bs₁ bs₂ bs₃ : List ℕ} (z : List ℤ) {w : List ℤ} →
+      Accepts w (allowanceCall rule p z) →
+      StripGave p (forwardCall rule p) x₁ y₁ b₁ m₁ bs₁ → StripGave p (forwardCall rule p) x₂ y₂ b₂ m₂ bs₂ →
+      StripGave p (forwardCall rule p) x₃ y₃ b₃ m₃ bs₃ →
       (k : ℕ) → k < length b₁ → k < length b₂ → k < length b₃ → getD bs₁ k 0 ≡ 0 → getD bs₂ k 0 ≡ 0 → getD bs₃ k 0 ≡ 0 →
       ((e : ℕ) → e < p .size → at (block (p .size) k x₃) e ≡ at (block (p .size) k x₁) e -ℤ at (block (p .size) k x₂) e) →
       (e : ℕ) → e < p .size →
-      pos (unit * natAbs ((at (block (p .size) k m₁) e -ℤ at (block (p .size) k m₂) e) -ℤ at (block (p .size) k m₃) e)) ≤ℤ (pos 3 *ℤ at w e)
+      pos (unit * natAbs ((at (block (p .size) k m₁) e -ℤ at (block (p .size) k m₂) e) -ℤ at (block (p .size) k m₃) e)) ≤ℤ
+      (pos 3 *ℤ at w e)
   strip-difference {x₁} {x₂} {x₃} {y₁} {y₂} {y₃} z g h₁ h₂ h₃ k l₁ l₂ l₃ e₁ e₂ e₃ less =
-      returned-difference promises (block (p .size) k x₁) (block (p .size) k x₂) (block (p .size) k x₃) z (block (p .size) k y₁) (block (p .size) k y₂) (block (p .size) k y₃) less g
-      (block-accepts (forward-block rule p) h₁ k l₁ e₁) (block-accepts (forward-block rule p) h₂ k l₂ e₂) (block-accepts (forward-block rule p) h₃ k l₃ e₃)
+      returned-difference promises (block (p .size) k x₁) (block (p .size) k x₂) (block (p .size) k x₃) z (block (p .size) k y₁)
+      (block (p .size) k y₂) (block (p .size) k y₃) less g
+      (block-accepts (forward-block rule p) h₁ k l₁ e₁) (block-accepts (forward-block rule p) h₂ k l₂ e₂)
+      (block-accepts (forward-block rule p) h₃ k l₃ e₃)
 
 -- ---- the cut law: "a block refused by the first part to run counts as refused"
 in-two-number :
     (f : ℕ) (first : Reply ℤ) (second : List ℤ → Reply ℤ) (y : List ℤ) →
-    inTwo f first second y .answer .number ≡ cond (eqb (first .answer .number) 0) (second (first .memory) .answer .number) (first .answer .number)
+    inTwo f first second y .answer .number ≡ cond (eqb (first .answer .number) 0) (second (first .memory) .answer .number)
+    (first .answer .number)
 unfolding inTwo farther
-in-two-number f first second y = split (ℕ-discrete (first .answer .number) 0) (ℕ-discrete (second (first .memory) .answer .number) 0)
+in-two-number f first second y =
+    split (ℕ-discrete (first .answer .number) 0) (ℕ-discrete (second (first .memory) .answer .number) 0)
   where
     split :
         Dec (first .answer .number ≡ 0) → Dec (second (first .memory) .answer .number ≡ 0) →
-        inTwo f first second y .answer .number ≡ cond (eqb (first .answer .number) 0) (second (first .memory) .answer .number) (first .answer .number)
+        inTwo f first second y .answer .number ≡ cond (eqb (first .answer .number) 0) (second (first .memory) .answer .number)
+        (first .answer .number)
     split (yes e) (yes d) = rw (eq-eqb _ 0 e, eq-eqb _ 0 d)
     split (yes e) (no d) = rw (eq-eqb _ 0 e, ne-eqb _ 0 d)
     split (no e) d = rw (ne-eqb _ 0 e)
 
 in-two-memory :
-    (f : ℕ) (first : Reply ℤ) (second : List ℤ → Reply ℤ) (y : List ℤ) → first .answer .number ≡ 0 → second (first .memory) .answer .number ≡ 0 →
+    (f : ℕ) (first : Reply ℤ) (second : List ℤ → Reply ℤ) (y : List ℤ) → first .answer .number ≡ 0 →
+    second (first .memory) .answer .number ≡ 0 →
     inTwo f first second y .memory ≡ second (first .memory) .memory
 unfolding inTwo farther
 in-two-memory f first second y e d = rw (eq-eqb _ 0 e, eq-eqb _ 0 d)
 
--- the whole strip, its first part with a middle slice as output, and its second part on what that left: block by block, the byte is
--- the first part's if that is not 0, else the second's; where both are 0, the outputs agree
+-- the whole strip, its first part with a middle slice as output, and its second part on what that left: block by block, the byte
+-- is the first part's if that is not 0, else the second's; where both are 0, the outputs agree
 pub strip-cut :
     {rule : Rule} {p front back : Plan} {f : ℕ} → CutLaw rule p front back f → front .size ≡ p .size → back .size ≡ p .size →
     {x y m middle u v : List ℤ} {b bs b₁ bs₁ b₂ bs₂ : List ℕ} →
@@ -264,8 +299,10 @@ pub strip-cut :
     (getD bs k 0 ≡ cond (eqb (getD bs₁ k 0) 0) (getD bs₂ k 0) (getD bs₁ k 0))
     × (getD bs₁ k 0 ≡ 0 → getD bs₂ k 0 ≡ 0 → block (p .size) k m ≡ block (p .size) k v)
 strip-cut {rule} {p} {front} {back} {f} law s t {x} {y} {m} {middle} {u} {v} {b} {bs} {b₁} {bs₁} {b₂} {bs₂} h g₁ g₂ k l = (
-  bytes .1 ∙ ap (λ (q : Reply ℤ). q .answer .number) same ∙ in-two-number f first second (block n k y) ∙ rw (first-is .1, then-is .1),
-  λ e d. bytes .0 ∙ ap (λ (q : Reply ℤ). q .memory) same ∙ in-two-memory f first second (block n k y) (sym (first-is .1) ∙ e) (sym (then-is .1) ∙ d) ∙ sym (then-is .0),
+  bytes .1 ∙ ap (λ (q : Reply ℤ). q .answer .number) same ∙ in-two-number f first second (block n k y)
+      ∙ rw (first-is .1, then-is .1),
+  λ e d. bytes .0 ∙ ap (λ (q : Reply ℤ). q .memory) same
+      ∙ in-two-memory f first second (block n k y) (sym (first-is .1) ∙ e) (sym (then-is .1) ∙ d) ∙ sym (then-is .0),
 )
   where
     n : ℕ
@@ -284,9 +321,11 @@ strip-cut {rule} {p} {front} {back} {f} law s t {x} {y} {m} {middle} {u} {v} {b}
     k₁ = omega (arith, as-many)
 
     k₂ : k < length b₂
-    k₂ = omega (arith, as-many, next-blocks (forward-block rule front) (t ∙ sym s) g₁ (accepted-fits (forward-block rule back) g₂))
+    k₂ =
+        omega (arith, as-many, next-blocks (forward-block rule front) (t ∙ sym s) g₁ (accepted-fits (forward-block rule back) g₂))
 
-    bytes : (block (p .size) k m ≡ forwardCall rule p (block (p .size) k x) (block (p .size) k y) .memory) × (getD bs k 0 ≡ forwardCall rule p (block (p .size) k x) (block (p .size) k y) .answer .number)
+    bytes : (block (p .size) k m ≡ forwardCall rule p (block (p .size) k x) (block (p .size) k y) .memory)
+        × (getD bs k 0 ≡ forwardCall rule p (block (p .size) k x) (block (p .size) k y) .answer .number)
     bytes = each-block (forward-block rule p) h k l
 
     first-is : (block (p .size) k u ≡ first .memory) × (getD bs₁ k 0 ≡ first .answer .number)
@@ -296,4 +335,7 @@ strip-cut {rule} {p} {front} {back} {f} law s t {x} {y} {m} {middle} {u} {v} {b}
     then-is = rw (first-is .0) at (each-block-of (forward-block rule back) g₂ k k₂ (p .size) t)
 
     same : forwardCall rule p (block (p .size) k x) (block (p .size) k y) ≡ inTwo f first second (block (p .size) k y)
-    same = law .same (block (p .size) k x) (block (p .size) k middle) (block (p .size) k y) (input-block (forward-block rule p) h k l) (rw s at (found-block (forward-block rule front) g₁ k k₁)) (found-block (forward-block rule p) h k l)
+    same =
+        law .same (block (p .size) k x) (block (p .size) k middle) (block (p .size) k y)
+        (input-block (forward-block rule p) h k l) (rw s at (found-block (forward-block rule front) g₁ k k₁))
+        (found-block (forward-block rule p) h k l)

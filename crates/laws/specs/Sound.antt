@@ -19,11 +19,12 @@ use Rattle.rules.specs.Numbers.{at, count}
 use Rattle.rules.specs.Sheets.{kindOf, triangle}
 use Rattle.rules.specs.Factors.{Factor, numbers, signsAt, above, entriesBefore, factorAt, factorsFrom, factors, hasEntry}
 use Rattle.rules.specs.Answers.{accepted, further, start, differ, clash, matching}
-use Rattle.rules.specs.Laws.Good.{Permutes, Sound, AllSound, AllMatch}
+use Rattle.rules.specs.Laws.GoodStages.{Permutes, Sound, AllSound, AllMatch}
 use Rattle.laws.specs.Tests.{apart, natural-eq, triangle-more}
 use Rattle.laws.specs.Readers.{Seen}
 use Rattle.laws.specs.First.{first-before, first-none}
-use Rattle.laws.specs.Accepted.{never, Run, sign-is, entry-is, place-is, place-new, entriesOf, FactorRead, further-first, Each, each-rest, Accepted}
+use Rattle.laws.specs.Accepted.{never, Stretch, sign-is, entry-is, place-is, place-new, entriesOf, FactorRead}
+use Rattle.laws.specs.Accepted.{further-first, Each, each-rest, Accepted}
 use Rattle.rules.specs.Laws.Pigeon.{apart-permutes}
 
 -- ---- each entry that a kind has stands among its entries
@@ -73,7 +74,7 @@ entry-kind Lower r m k h e = never (cc)
 entry-kind Upper r m k h e = never (cc)
 entry-kind Single r m k h e = never (cc)
 
-pub places-permute : {s : List ℤ} {n i : ℕ} → Run s (Place n i) n i → Permutes n (λ m. count s (i + m))
+pub places-permute : {s : List ℤ} {n i : ℕ} → Stretch s (Place n i) n i → Permutes n (λ m. count s (i + m))
 places-permute {s} {n} {i} h =
     apart-permutes n (λ m. count s (i + m)) (λ m l. place-is (h .each m l) .1)
     (λ a b l k e.

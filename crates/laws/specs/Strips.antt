@@ -1,5 +1,5 @@
--- WHAT A STRIP HAS, block by block: over any plan and any call whose output is a block again. What an accepted strip tells, and how the
--- strip grows by a block. Assumes nothing.
+-- WHAT A STRIP HAS, block by block: over any plan and any call whose output is a block again. What an accepted strip tells, and
+-- how the strip grows by a block. Assumes nothing.
 use mathlib.Core.List.{List, [], _∷_, _++_}
 use mathlib.Core.Logic.{_⊎_, inl, inr}
 use mathlib.Core.Path.{_≡_, refl, sym, ap, _∙_}
@@ -12,12 +12,14 @@ use borrow.Author.Tests.{eq-eqb, ne-eqb}
 use lib.IntN.{ℤ}
 use lib.ListN.{length, take, drop, getD, length-append, length-drop, List·getD-append}
 use lib.Seq.{length-take-le, take-append-le, drop-append-le, drop-at, getD-at, take-all}
-use Rattle.rules.specs.Stages.{Rule, Ran, done, beyond, runForward, runInverse}
+use Rattle.rules.specs.declared.Rule.{Rule}
+use Rattle.rules.specs.Stages.{Ran, done, beyond, runForward, runInverse}
 use Rattle.rules.specs.Answers.{accepted, _or-else_}
 use Rattle.rules.specs.Calls.{Reply, reply, Plan, sized, ranAnswer, runReply, forwardCall, inverseCall}
 use Rattle.rules.specs.Strips.{StripReply, block, inBlocks, blockReply, outputs, bytesOf, stripAnswer, strip}
 use Rattle.laws.specs.Accepted.{both-fine}
-use Rattle.laws.specs.Plans.{run-ready, sized-fine, sized-is, forward-length, inverse-length, forward-gives, inverse-gives, forward-accepted, inverse-accepted}
+use Rattle.laws.specs.Plans.{run-ready, sized-fine, sized-is, forward-length, inverse-length, forward-gives, inverse-gives}
+use Rattle.laws.specs.Plans.{forward-accepted, inverse-accepted}
 use Rattle.laws.specs.Promises.{Keeps, forward-keeps, inverse-keeps}
 
 -- ---- single calls, and what a strip over a plan asks of them
@@ -54,7 +56,8 @@ run-call {p} {call} run is kept fills = record {
 }
   where
     split :
-        (x y : List ℤ) → length x ≡ p .size → length y ≡ p .size → Dec (call x y .answer .number ≡ 0) → length (call x y .memory) ≡ p .size
+        (x y : List ℤ) → length x ≡ p .size → length y ≡ p .size → Dec (call x y .answer .number ≡ 0) →
+        length (call x y .memory) ≡ p .size
     split x y l m (yes h) = fills x y h ∙ l
     split x y l m (no h) = ap length (kept x y .keeps h) ∙ m
 
@@ -63,13 +66,15 @@ module _ (rule : Rule) (p : Plan) where
   unfolding forwardCall
   forward-block =
       run-call (runForward rule (p .size) (p .stages)) (λ x y. refl) (forward-keeps rule p)
-      (λ x y h. forward-length rule (p .size) (p .stages) x _ (forward-gives rule p x y _ .0 (forward-accepted rule p x y h) .1 .gives))
+      (λ x y h. forward-length rule (p .size) (p .stages) x _
+      (forward-gives rule p x y _ .0 (forward-accepted rule p x y h) .1 .gives))
 
   pub inverse-block : BlockCall p (inverseCall rule p)
   unfolding inverseCall
   inverse-block =
       run-call (runInverse rule (p .size) (p .stages)) (λ x y. refl) (inverse-keeps rule p)
-      (λ x y h. inverse-length rule (p .size) (p .stages) x _ (inverse-gives rule p x y _ .0 (inverse-accepted rule p x y h) .1 .gives))
+      (λ x y h. inverse-length rule (p .size) (p .stages) x _
+      (inverse-gives rule p x y _ .0 (inverse-accepted rule p x y h) .1 .gives))
 
 -- ---- blocks
 -- a block before the m-th ends there at the latest
@@ -82,7 +87,8 @@ block-length n k v h = length-take-le n (drop (k * n) v) (omega (arith, length-d
 -- a block that lies in the first of two lists
 pub block-front : (n k : ℕ) (v w : List ℤ) → k * n + n ≤ length v → block n k (v ++ w) ≡ block n k v
 block-front n k v w h =
-    ap (take n) (drop-append-le (k * n) v w (omega arith)) ∙ take-append-le n (drop (k * n) v) w (omega (arith, length-drop (k * n) v))
+    ap (take n) (drop-append-le (k * n) v w (omega arith))
+    ∙ take-append-le n (drop (k * n) v) w (omega (arith, length-drop (k * n) v))
 
 module _ (p : Plan) (call : List ℤ → List ℤ → Reply ℤ) where
   pub bytes-length : (x y : List ℤ) (k : ℕ) → length (bytesOf p call k x y) ≡ k
@@ -98,7 +104,8 @@ module _ (p : Plan) (call : List ℤ → List ℤ → Reply ℤ) where
     where
       split :
           Dec (j < k) → (j < k → getD (bytesOf p call k x y) j 0 ≡ blockReply p call x y j .answer .number) →
-          getD (bytesOf p call k x y ++ (blockReply p call x y k .answer .number ∷ [])) j 0 ≡ blockReply p call x y j .answer .number
+          getD (bytesOf p call k x y ++ (blockReply p call x y k .answer .number ∷ [])) j 0 ≡ blockReply p call x y
+          j .answer .number
       split (yes l) before = List·getD-append (bytesOf p call k x y) _ 0 j (rw (bytes-length x y k) l) ∙ before l
       split (no l) before = let e : k ≡ j = omega arith in rw (← e) (getD-at (bytesOf p call k x y) _ [] 0 k (bytes-length x y k))
 
@@ -109,7 +116,8 @@ module _ (p : Plan) (call : List ℤ → List ℤ → Reply ℤ) where
     outputs-length zero h g = sym (zero-mul (p .size))
     outputs-length (suc k) h g =
         let e = suc-mul k (p .size) in
-        let l = whole .long (block (p .size) k x) (block (p .size) k y) (block-length (p .size) k x (omega arith)) (block-length (p .size) k y (omega arith)) in
+        let l = whole .long (block (p .size) k x) (block (p .size) k y) (block-length (p .size) k x (omega arith))
+        (block-length (p .size) k y (omega arith)) in
         length-append (outputs p call k x y) _ ∙ rw (outputs-length k (omega arith) (omega arith), l) (sym e)
 
     -- block j of k is the output of the single call on block j
@@ -118,7 +126,8 @@ module _ (p : Plan) (call : List ℤ → List ℤ → Reply ℤ) where
         block (p .size) j (outputs p call k x y) ≡ blockReply p call x y j .memory
     unfolding outputs
     output-of zero j h g l = absurd (omega arith)
-    output-of (suc k) j h g l = split (decLt j k) (output-of k j (omega (arith, suc-mul k (p .size))) (omega (arith, suc-mul k (p .size))))
+    output-of (suc k) j h g l =
+        split (decLt j k) (output-of k j (omega (arith, suc-mul k (p .size))) (omega (arith, suc-mul k (p .size))))
       where
         e : suc k * p .size ≡ k * p .size + p .size
         e = suc-mul k (p .size)
@@ -132,10 +141,12 @@ module _ (p : Plan) (call : List ℤ → List ℤ → Reply ℤ) where
         split :
             Dec (j < k) → (j < k → block (p .size) j (outputs p call k x y) ≡ blockReply p call x y j .memory) →
             block (p .size) j (outputs p call k x y ++ blockReply p call x y k .memory) ≡ blockReply p call x y j .memory
-        split (yes i) before = block-front (p .size) j (outputs p call k x y) _ (omega (arith, front, block-fits j k (p .size) i)) ∙ before i
+        split (yes i) before =
+            block-front (p .size) j (outputs p call k x y) _ (omega (arith, front, block-fits j k (p .size) i)) ∙ before i
         split (no i) before =
             let q : k ≡ j = omega arith in
-            rw (← q) (ap (take (p .size)) (drop-at (outputs p call k x y) _ (k * p .size) front) ∙ take-all (p .size) _ (omega (arith, last)))
+            rw (← q) (ap (take (p .size)) (drop-at (outputs p call k x y) _ (k * p .size) front)
+            ∙ take-all (p .size) _ (omega (arith, last)))
 
 -- ---- the answer
 -- what an accepted strip tells of its sheets and lengths
@@ -164,7 +175,8 @@ strip-fits p x y b h =
 
 -- "else accepted, zero blocks too"
 pub strip-accepted :
-    (p : Plan) (x y : List ℤ) (b : List ℕ) → 0 < p .size → p .sheets .number ≡ 0 → length x ≡ length b * p .size → length y ≡ length x →
+    (p : Plan) (x y : List ℤ) (b : List ℕ) → 0 < p .size → p .sheets .number ≡ 0 → length x ≡ length b * p .size →
+    length y ≡ length x →
     stripAnswer p x y b ≡ accepted
 unfolding stripAnswer _or-else_
 strip-accepted p x y b some h e l =

@@ -1,5 +1,5 @@
 pub mod Steps
-pub mod Values
-pub mod Links
+pub mod LineBounds
+pub mod StagesAgree
 pub mod Runs
 pub mod Promises

@@ -2,7 +2,7 @@
 use mathlib.Core.List.{List, [], _∷_, _++_, reverse, reverse-append}
 use mathlib.Core.Path.{_≡_, refl, ap, _∙_}
 use Prim.Native.Nat.{ℕ, suc, _+_, _-_, _<_}
-use native.Mathlib.Nat.{sub-self}
+use native.Mathlib.Nat.{sub-self, sub-zero}
 use native.Mathlib.Omega.{arith}
 use lib.IntN.{ℤ}
 use Rattle.rules.specs.Numbers.{count}
@@ -11,17 +11,20 @@ use Rattle.rules.specs.Stages.{Stage}
 use Rattle.rules.specs.Shapes.{lineStage, lineStages}
 use Rattle.rules.specs.Answers.{further}
 use Rattle.rules.specs.Laws.Cuts.{lines-append}
-use Rattle.rules.specs.Laws.Good.{AllGood}
+use Rattle.rules.specs.Laws.GoodStages.{AllGood}
 use Rattle.rules.specs.Laws.Kinds.{lines-good}
 use Rattle.laws.specs.Accepted.{Accepted, further-next}
 use Rattle.laws.specs.Sound.{sheet-sound, factors-split}
-use Rattle.factor.specs.Loops.{Listed}
+use Rattle.factor.specs.declared.run.Task.{Task}
+use Rattle.factor.specs.declared.run.Task.the-variants.{Forward, Inverse, Allowance}
+use Rattle.factor.specs.Tasks.{isInverse, nthStage, inOrder}
+use Rattle.factor.specs.StageLoops.{Listed}
 
 -- the stages of a sheet
-abbrev pub stagesOf : List ℤ → List Stage
-stagesOf s = lineStages (count s 0) (factors s)
+abbrev pub lineStagesOf : List ℤ → List Stage
+lineStagesOf s = lineStages (count s 0) (factors s)
 
-pub stages-good : {s : List ℤ} → Accepted s → AllGood (count s 0) (stagesOf s)
+pub stages-good : {s : List ℤ} → Accepted s → AllGood (count s 0) (lineStagesOf s)
 stages-good a = lines-good (sheet-sound a)
 
 -- the stage of factor f
@@ -30,10 +33,10 @@ at-stage s n f = lineStage n (factorAt s n (further s n 2 f))
 
 module _ (s : List ℤ) (n K : ℕ) where
   -- ---- forward: the stages from the t-th on
-  abbrev pub ahead : ℕ → List Stage
+  abbrev ahead : ℕ → List Stage
   ahead t = lineStages n (factorsFrom s n (K - t) (further s n 2 t))
 
-  pub ahead-listed : Listed K (at-stage s n) ahead
+  ahead-listed : Listed K (at-stage s n) ahead
   unfolding lineStages factorsFrom further
   ahead-listed = record {
     next = λ t l. let e : K - t ≡ suc (K - (t + 1)) = omega arith in rw (e, further-next s n 2 t);
@@ -41,20 +44,41 @@ module _ (s : List ℤ) (n K : ℕ) where
   }
 
   -- ---- back: the stages before the last t, the last of them first
-  abbrev pub behind : ℕ → List Stage
+  abbrev behind : ℕ → List Stage
   behind t = reverse (lineStages n (factorsFrom s n (K - t) 2))
 
-  pub behind-listed : Listed K (λ t. at-stage s n (K - suc t)) behind
+  behind-listed : Listed K (λ t. at-stage s n (K - suc t)) behind
   behind-listed = record { next = λ t l. one-less t l; end = none-left }
     where
       none-left : behind K ≡ []
       none-left = rw (sub-self K) (unfold factorsFrom in unfold lineStages in refl)
 
       last : (m : ℕ) → lineStages n (factorsFrom s n (m + 1) 2) ≡ lineStages n (factorsFrom s n m 2) ++ (at-stage s n m ∷ [])
-      last m = ap (lineStages n) (factors-split s n m 1 2) ∙ lines-append n (factorsFrom s n m 2) (factorsFrom s n 1 (further s n 2 m)) ∙ (unfold factorsFrom in unfold lineStages in refl)
+      last m =
+          ap (lineStages n) (factors-split s n m 1 2) ∙ lines-append n (factorsFrom s n m 2) (factorsFrom s n 1 (further s n 2 m))
+          ∙ (unfold factorsFrom in unfold lineStages in refl)
 
       one-less : (t : ℕ) → t < K → behind t ≡ at-stage s n (K - suc t) ∷ behind (t + 1)
       one-less t l =
           let e : K - t ≡ (K - suc t) + 1 = omega arith in
           let d : K - (t + 1) ≡ K - suc t = omega arith in
           rw (e, d, last (K - suc t), reverse-append)
+
+  -- ---- by the task: the stages that are left after t
+  unfoldable pub left : Task → ℕ → List Stage
+  left Forward t = ahead t
+  left Inverse t = behind t
+  left Allowance t = ahead t
+
+  pub left-listed : (task : Task) → Listed K (λ t. at-stage s n (nthStage task K t)) (left task)
+  unfolding left nthStage isInverse
+  left-listed Forward = ahead-listed
+  left-listed Inverse = behind-listed
+  left-listed Allowance = ahead-listed
+
+-- before the first, all are left
+pub left-all : (s : List ℤ) (task : Task) → inOrder task (lineStagesOf s) ≡ left s (count s 0) (count s 1) task 0
+unfolding left inOrder factors further
+left-all s Forward = rw sub-zero
+left-all s Inverse = rw sub-zero
+left-all s Allowance = rw sub-zero

@@ -1,49 +1,43 @@
 // One stage of a line: the factor at place i of a checked sheet, applied, undone, or on allowances.
 ghost use Prim.Native.Nat.{_≤_};
-ghost use Rattle.rules.specs.Numbers.{bound, mostOrder};
+ghost use Rattle.rules.specs.Numbers.{mostOrder};
 ghost use Rattle.rules.specs.Factors.{factorAt};
-ghost use Rattle.rules.specs.Stages.{nearest, undo};
 ghost use Rattle.rules.specs.Shapes.{lineStage};
 ghost use Rattle.laws.specs.Accepted.{FactorRead};
-ghost use Rattle.factor.specs.Reach.{Numbers};
-ghost use Rattle.factor.specs.Ways.{limitOf, takenBy};
+ghost use Rattle.factor.specs.SumBounds.{Bounded};
+ghost use Rattle.factor.specs.Tasks.{limitOf, takenBy};
 ghost use Rattle.factor.specs.Steps.{Step};
-use crate::steps::Stepped;
+use crate::steps::Passed;
 use crate::steps::allow_weights;
-use crate::steps::unweigh;
-use crate::steps::weigh;
-use factor::Way;
+use crate::steps::apply_weights;
+use crate::steps::undo_weights;
 use factor::is_move;
+use factor::layout_at;
 use factor::moves::move_from;
-use factor::spot_at;
+use factor::run::Outcome;
+use factor::run::Run;
+use factor::run::Task;
 
-// Applied, or on allowances.
-pub fn take_factor(way: Way, sheet: &[i32], n: usize, i: usize, x: [i32; 16]) -> Stepped
-    requires { ⌜ (1 ≤ n) × (n ≤ mostOrder) × FactorRead (now sheet) n i × Numbers (limitOf way) x ⌝ }
-    ensures { λ r. ⌜ Step (limitOf way) n (takenBy way n (lineStage n (factorAt (now (sheet .entry)) n i)) x) (r .ok) (r .block) ⌝ }
+// A permutation moves the numbers, whatever the task; a factor with weights is taken by the task.
+pub fn run_stage(run: Run, sheet: &[i32], n: usize, i: usize, x: [i32; 16]) -> Passed
+    requires { ⌜ (1 ≤ n) × (n ≤ mostOrder) × FactorRead (now sheet) n i × Bounded (limitOf (run .task)) x ⌝ }
+    ensures { λ r. ⌜ Step (limitOf (run .task)) n (takenBy run n (lineStage n (factorAt (now (sheet .entry)) n i)) x)
+        (r .outcome .ok) (r .block) ⌝ }
 {
-    let f = spot_at(sheet, n, i);
+    let task = run.task;
+    let rule = run.rule;
+    let f = layout_at(sheet, n, i);
     if is_move(f) {
         let mut y = x;
-        move_from(sheet, f, false, &x, &mut y, 0, 1);
-        return Stepped { ok: true, block: y };
+        move_from(sheet, f, task, &x, &mut y, 0, 1);
+        return Passed {
+            block: y,
+            outcome: Outcome { ok: true, stage: 0 },
+        };
     }
-    match way {
-        Way::Applied => return weigh(sheet, f, x),
-        Way::Allowed => return allow_weights(sheet, f, x),
+    match task {
+        Task::Forward => return apply_weights(rule, sheet, f, x),
+        Task::Inverse => return undo_weights(rule, sheet, f, x),
+        Task::Allowance => return allow_weights(rule, sheet, f, x),
     }
-}
-
-// Undone.
-pub fn undo_factor(sheet: &[i32], n: usize, i: usize, y: [i32; 16]) -> Stepped
-    requires { ⌜ (1 ≤ n) × (n ≤ mostOrder) × FactorRead (now sheet) n i × Numbers bound y ⌝ }
-    ensures { λ r. ⌜ Step bound n (undo nearest n (lineStage n (factorAt (now (sheet .entry)) n i)) y) (r .ok) (r .block) ⌝ }
-{
-    let f = spot_at(sheet, n, i);
-    if is_move(f) {
-        let mut x = y;
-        move_from(sheet, f, true, &y, &mut x, 0, 1);
-        return Stepped { ok: true, block: x };
-    }
-    unweigh(sheet, f, y)
 }

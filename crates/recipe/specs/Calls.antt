@@ -1,33 +1,20 @@
 -- THE CALLS: what one gives that refuses, and what holds where one refuses nothing.
 use mathlib.Core.List.{List, [], _∷_}
-use mathlib.Core.Path.{_≡_, refl, sym, _∙_}
+use mathlib.Core.Path.{_≡_, refl, _∙_}
 use Prim.Native.Nat.{ℕ, _≤_, _<_}
 use native.Mathlib.Decide.{decLt, ℕ-discrete}
 use native.Mathlib.Omega.{arith}
-use borrow.Author.Tests.{le-leb, lt-leb, eq-eqb, ne-eqb}
+use borrow.Author.Tests.{le-leb, lt-leb, ne-eqb}
 use lib.IntN.{ℤ}
 use lib.ListN.{length}
 use Rattle.rules.specs.declared.Answer.{Answer}
 use Rattle.rules.specs.Recipes.{packed, numbersOf, leftOf}
-use Rattle.rules.specs.Answers.{counted, _or-else_, checked}
-use Rattle.rules.specs.Calls.{Gives, reply, fitting, over, spelling, read, write}
+use Rattle.rules.specs.Answers.{counted, checked}
+use Rattle.rules.specs.Calls.{reply, fitting, over, spelling, read, write}
 use Rattle.laws.specs.Accepted.{both-fine}
-
--- ---- the lent slice after a refusal, and after none
-module _ {A : Type 0} {x a : Answer} (new old : List A) (e : x ≡ a) where
-  pub keeps : (x .number ≡ 0 → ⊥) → Gives x old (reply a new old)
-  unfolding reply
-  keeps h = (e, rw (sym e, ne-eqb (x .number) 0 h))
-
-  pub fills : {memory : List A} → x .number ≡ 0 → memory ≡ new → Gives x memory (reply a new old)
-  unfolding reply
-  fills h f = (e, rw (sym e, eq-eqb (x .number) 0 h) f)
+use Rattle.laws.specs.AnswersInTurn.{answer-passes}
 
 -- ---- answers that are no refusal
-pub or-fine : (a b : Answer) → a .number ≡ 0 → a or-else b ≡ b
-unfolding _or-else_
-or-fine a b h = rw (eq-eqb (a .number) 0 h)
-
 pub fitting-fine : (n room : ℕ) → fitting n room .number ≡ 0 → (n ≤ room) × (fitting n room ≡ counted n)
 fitting-fine n room h = split (decLt room n)
   where
@@ -65,7 +52,7 @@ wrote s room h =
     record {
       sheet = f .0;
       fits = g .0;
-      whole = reply-fine (length (packed s)) (over (packed s) room) room (or-fine (checked s) _ (f .0) ∙ g .1);
+      whole = reply-fine (length (packed s)) (over (packed s) room) room (answer-passes (checked s) _ (f .0) ∙ g .1);
     }
 
 -- ---- bytes that were read
@@ -86,5 +73,6 @@ did-read b room h =
       all = spelling-fine b (f .0);
       sheet = g .0;
       fits = k .0;
-      whole = reply-fine (length s) (over s room) room (or-fine (spelling b) _ (f .0) ∙ or-fine (checked s) _ (g .0) ∙ k .1);
+      whole = reply-fine (length s) (over s room) room (answer-passes (spelling b) _ (f .0) ∙ answer-passes (checked s) _ (g .0)
+          ∙ k .1);
     }

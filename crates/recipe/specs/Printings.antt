@@ -1,13 +1,14 @@
 -- THE TWO PRINTINGS of the built-in recipe differ in the number at 27: one call goes through the other.
 use mathlib.Core.List.{List}
 use mathlib.Core.Path.{_≡_, refl, sym, ap, _∙_, subst}
-use Prim.Native.Nat.{ℕ, _<_}
+use Prim.Native.Nat.{_<_}
 use native.Mathlib.Omega.{arith}
 use lib.IntN.{ℤ, pos}
 use lib.ListN.{length, set}
 use Rattle.rules.specs.declared.Answer.{Answer}
 use Rattle.rules.specs.Calls.{Gives, reply, fitting, over, builtIn, firstPrinting, writeTable}
-use Rattle.recipe.specs.Calls.{keeps, fills, fitting-fine}
+use Rattle.laws.specs.AnswersInTurn.{keeps, fills}
+use Rattle.recipe.specs.Calls.{fitting-fine}
 use Rattle.recipe.specs.Filling.{over-long}
 
 module _ (room : List ℤ) {x : Answer} {m : List ℤ} (g : Gives x m (writeTable builtIn room)) where
@@ -18,7 +19,9 @@ module _ (room : List ℤ) {x : Answer} {m : List ℤ} (g : Gives x m (writeTabl
   -- where one is refused, so is the other
   pub printing-refused : (x .number ≡ 0 → ⊥) → Gives x m (writeTable firstPrinting room)
   unfolding writeTable
-  printing-refused h = subst (λ (l : List ℤ). Gives x l (writeTable firstPrinting room)) (sym kept) (keeps (over firstPrinting room) room answered h)
+  printing-refused h =
+      subst (λ (l : List ℤ). Gives x l (writeTable firstPrinting room)) (sym kept)
+      (keeps (over firstPrinting room) room answered h)
     where
       kept : m ≡ room
       kept = g .1 ∙ sym (keeps (over builtIn room) room answered h .1)

@@ -54,20 +54,20 @@ pub scan-none : (b : List ℕ) → Scanned b 0 0
 scan-none b = record { inside = omega arith; rest = rw sub-zero; many = rw (sub-zero, zero-add) }
 
 -- how it ends: the place of the first number that is none, or the end, and how many stand before it
-pub record Ends (b : List ℕ) (place many : ℕ) : Type 0 where
+pub record NumbersEnd (b : List ℕ) (place many : ℕ) : Type 0 where
   pub inside : place ≤ length b
   pub place-is : place + length (leftOf b) ≡ length b
   pub many-is : many ≡ length (numbersOf b)
 
 scan-ends : {b : List ℕ} {k i : ℕ} → Scanned b k i → left (length b - k) (drop i b) ≡ drop i b
-    → unpack (length b - k) (drop i b) ≡ [] → Ends b i k
+    → unpack (length b - k) (drop i b) ≡ [] → NumbersEnd b i k
 scan-ends {b} {k} {i} h p q = record {
   inside = h .inside;
   place-is = rw (h .rest, p) (let a = h .inside in omega (arith, length-drop i b));
   many-is = sym (h .many ∙ rw q (add-zero k));
 }
 
-pub scan-end : {b : List ℕ} {k i : ℕ} → length b ≤ k → Scanned b k i → Ends b i k
+pub scan-end : {b : List ℕ} {k i : ℕ} → length b ≤ k → Scanned b k i → NumbersEnd b i k
 unfolding left unpack
 scan-end {b} {k} {i} l h = let e : length b - k ≡ 0 = omega arith in scan-ends h (rw e) (rw e)
 
@@ -76,7 +76,7 @@ pub inside-by : (b : List ℕ) (i : ℕ) {r : Spelt} → r ≡ number (drop i b)
 inside-by b i e h = rw e (number-inside b i h)
 
 module _ {b : List ℕ} {k i : ℕ} {r : Spelt} (e : r ≡ number (drop i b)) where
-  pub scan-stop : r .size ≡ 0 → Scanned b k i → Ends b i k
+  pub scan-stop : r .size ≡ 0 → Scanned b k i → NumbersEnd b i k
   scan-stop z h =
       let none : number (drop i b) .size ≡ 0 = rw e at z in
       scan-ends h (left-stop (length b - k) (drop i b) none) (unpack-stop (length b - k) (drop i b) none)

@@ -15,7 +15,7 @@ use lib.ListN.{length, getD, take}
 use Rattle.rules.specs.declared.Spelt.{Spelt}
 use Rattle.rules.specs.Recipes.{code, value, spell, written, spelt, none, group, groups, number}
 use Rattle.laws.specs.Tests.{apart}
-use Rattle.recipe.specs.Codes.{codes, Codable, code-value}
+use Rattle.recipe.specs.Codes.{Codable, code-value}
 
 -- ---- what one, two and three groups look like
 pub spell-1 : (u : ℕ) → u < 128 → spell 2 u ≡ u ∷ []

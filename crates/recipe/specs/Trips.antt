@@ -15,7 +15,8 @@ use Rattle.recipe.specs.Codes.{small-codable}
 use Rattle.recipe.specs.Spelling.{Bytes}
 use Rattle.recipe.specs.Packing.{Codables, read-packed, packed-read, one-spelling}
 use Rattle.recipe.specs.Filling.{over-front}
-use Rattle.recipe.specs.Calls.{or-fine, wrote, did-read}
+use Rattle.laws.specs.AnswersInTurn.{answer-passes}
+use Rattle.recipe.specs.Calls.{wrote, did-read}
 
 -- every number of an accepted sheet has at most three groups
 pub accepted-codables : (s : List ℤ) → checked s .number ≡ 0 → Codables s
@@ -33,7 +34,7 @@ unfolding read
 read-packed-call s out h =
     let r = read-packed s (accepted-codables s h) in
     let e : spelling (packed s) ≡ accepted = rw (r .1) in
-    rw (e, r .0, or-fine accepted _ refl, or-fine (checked s) _ h)
+    rw (e, r .0, answer-passes accepted _ refl, answer-passes (checked s) _ h)
 
 -- reading what the writer wrote gives the sheet back, where there is room
 pub read-of-write : (s : List ℤ) (room : List ℕ) (out : List ℤ) → write s room .answer .number ≡ 0
@@ -50,7 +51,7 @@ pub write-of-read : (b : List ℕ) (out : List ℤ) (room : List ℕ) → Bytes 
 unfolding write
 write-of-read b out room h k =
     let r = did-read b out k in
-    rw (front (numbersOf b) out (r .whole), packed-read b h (r .all), or-fine (checked (numbersOf b)) _ (r .sheet))
+    rw (front (numbersOf b) out (r .whole), packed-read b h (r .all), answer-passes (checked (numbersOf b)) _ (r .sheet))
 
 -- no two byte strings are read as the same sheet
 pub one-recipe : (a b : List ℕ) (out : List ℤ) → Bytes a → Bytes b → read a out .answer .number ≡ 0

@@ -1,17 +1,18 @@
 // Reading a recipe: the numbers of a byte string, one after another, checked as a sheet.
 ghost use mathlib.Core.Path.{_≡_};
-ghost use Prim.Native.Nat.{_+_, _≤_, _<_, min};
+ghost use Prim.Native.Nat.{_+_, _≤_, _<_};
 ghost use lib.ListN.{length, set, take, drop};
 ghost use Rattle.rules.specs.Recipes.{value, number, numbersOf, leftOf};
 ghost use Rattle.rules.specs.Answers.{_or-else_, checked};
 ghost use Rattle.rules.specs.Calls.{Gives, over, spelling, fitting, read};
-ghost use Rattle.recipe.specs.Reading.{Ends};
+ghost use Rattle.recipe.specs.Reading.{NumbersEnd};
 use crate::answers::fitting;
 use crate::answers::or_else;
 use crate::number::read_number;
 use crate::number::value_of;
 use rules::Answer;
 use rules::Sheet;
+use sheet::factors::smaller;
 
 // These decide about any sheet: one number more than the longest sheet has is a fault already.
 const ENOUGH: usize = Sheet::LONGEST + 1;
@@ -24,7 +25,7 @@ pub struct End {
 
 // Reads number after number until none stands at the place: that is the end, or the fault of 14.
 pub fn scan(bytes: &[u8]) -> End
-    ensures { λ r. ⌜ Ends (now (bytes .entry)) (r .place) (r .count) ⌝ }
+    ensures { λ r. ⌜ NumbersEnd (now (bytes .entry)) (r .place) (r .count) ⌝ }
 {
     let n = bytes.len();
     let mut i = 0;
@@ -60,13 +61,6 @@ pub fn decode(bytes: &[u8], out: &mut [i32], m: usize)
     }
 }
 
-// The smaller of two numbers.
-fn smaller(a: usize, b: usize) -> usize
-    ensures { λ r. ⌜ r ≡ min a b ⌝ }
-{
-    if a <= b { a } else { b }
-}
-
 // Checks the numbers of some bytes as a sheet, in a copy of those that decide. So no bytes are too many to be answered.
 fn check_numbers(bytes: &[u8], count: usize) -> Answer
     requires { ⌜ count ≡ length (numbersOf (now bytes)) ⌝ }
@@ -91,7 +85,7 @@ fn spelling(bytes: &[u8], place: usize) -> Answer
 
 // The reader's answer: 14 for the whole byte string first, then 1 to 9, then 15.
 fn read_answer(bytes: &[u8], end: End, room: usize) -> Answer
-    requires { ⌜ Ends (now bytes) (end .place) (end .count) ⌝ }
+    requires { ⌜ NumbersEnd (now bytes) (end .place) (end .count) ⌝ }
     ensures { λ r. ⌜
         r
         ≡ spelling (now (bytes .entry)) or-else checked (numbersOf (now (bytes .entry))) or-else fitting (end .count) room

@@ -1,7 +1,7 @@
 pub mod Multiples
 pub mod Weights
-pub mod Order
+pub mod UndoingOrder
 pub mod Moves
-pub mod Links
+pub mod StagesAgree
 pub mod Runs
 pub mod Promises

@@ -11,20 +11,21 @@ use Prim.Native.Nat.{ℕ, _+_, _*_, _/_, _%_, _≤_, _<_}
 use lib.IntN.{ℤ}
 use lib.ListN.{length}
 use Rattle.rules.specs.Numbers.{at}
-use Rattle.rules.specs.Laws.Good.{Permutes}
+use Rattle.rules.specs.Laws.GoodStages.{Permutes}
 use Rattle.rules.specs.Laws.Lists.{same-list}
-use Rattle.rules.specs.Laws.Rect.{row-below, col-below, place-below, row-of, col-of, pair-permutes}
-use Rattle.factor.specs.declared.Spot.{Spot}
-use Rattle.factor.specs.Lies.{Moves, placeAt}
-use Rattle.factor.specs.Walks.{apart}
-use Rattle.factor.specs.Spreads.{toOf, fromOf, spread, movedBy, movedLine, length-spread, spread-other, spread-at, moved-spread, to-permutes, from-permutes}
+use Rattle.rules.specs.Laws.Rectangles.{row-below, col-below, element-below, row-of, col-of, pair-permutes}
+use Rattle.factor.specs.declared.Layout.{Layout}
+use Rattle.factor.specs.LayoutInSheet.{Moves, permutationAt}
+use Rattle.factor.specs.InPlace.{apart}
+use Rattle.factor.specs.MovedInPlace.{toOf, fromOf, scattered, movedBy, movedLine, length-scattered, scattered-other}
+use Rattle.factor.specs.MovedInPlace.{scattered-at, moved-scattered, to-permutes, from-permutes}
 
 -- where element e comes from: "Y(i,j) = X(p(i), q(j))"
-unfoldable pub sourceOf : List ℤ → Spot → List ℤ → Spot → ℕ → ℕ
-sourceOf c fa r fb e = placeAt c fa (e / fb .order) * fb .order + placeAt r fb (e % fb .order)
+unfoldable pub sourceOf : List ℤ → Layout → List ℤ → Layout → ℕ → ℕ
+sourceOf c fa r fb e = permutationAt c fa (e / fb .order) * fb .order + permutationAt r fb (e % fb .order)
 
 -- a block of two orders
-pub few : {c r : List ℤ} {fa fb : Spot} → Moves c fa → Moves r fb → fa .order * fb .order ≤ 256
+pub few : {c r : List ℤ} {fa fb : Layout} → Moves c fa → Moves r fb → fa .order * fb .order ≤ 256
 few h k = mul-le-mul (h .order) (k .order)
 
 -- lines of n numbers, s apart, each line w places after the one before it: no place stands on two of them, or twice on one
@@ -37,10 +38,13 @@ pub record Lines (many n w s room : ℕ) : Type 0 where
 pub rows : (n1 n2 room : ℕ) → n1 * n2 ≤ room → Lines n1 n2 n2 1 room
 rows n1 n2 room h = record {
   starts = h;
-  inside = λ l m a b. omega (arith, place-below n1 n2 l m a b);
+  inside = λ l m a b. omega (arith, element-below n1 n2 l m a b);
   once = λ l i m j a b c d e.
-      let z : l * n2 + m ≡ i * n2 + j = omega arith in
-      (sym (row-of n1 n2 l m c) ∙ ap (λ (k : ℕ). k / n2) z ∙ row-of n1 n2 i j d, sym (col-of n1 n2 l m c) ∙ ap (λ (k : ℕ). k % n2) z ∙ col-of n1 n2 i j d);
+      let z : l * n2 + m ≡ i * n2 + j = omega arith in (
+        sym (row-of n1 n2 l m c) ∙ ap (λ (k : ℕ). k / n2) z ∙ row-of n1 n2 i j d,
+        sym (col-of n1 n2 l m c)
+            ∙ ap (λ (k : ℕ). k % n2) z ∙ col-of n1 n2 i j d,
+      );
 }
 
 -- its columns are the rows, looked at the other way
@@ -59,6 +63,11 @@ pub record MovedLines (many n w s : ℕ) (to from : ℕ → ℕ) (x y : List ℤ
   pub there : (l m : ℕ) → l < many → m < n → at y (l * w + to m * s) ≡ at x (l * w + from m * s)
   pub other : (e : ℕ) → ((l m : ℕ) → l < many → m < n → e ≢ l * w + m * s) → at y e ≡ at x e
 
+-- by the permutation of a sheet
+abbrev pub MovedBySheet : List ℤ → Layout → Bool → ℕ → ℕ → ℕ → List ℤ → List ℤ → Type 0
+MovedBySheet sheet f back many w s x y =
+    MovedLines many (f .order) w s (toOf back (permutationAt sheet f)) (fromOf back (permutationAt sheet f)) x y
+
 pub no-line : {n w s : ℕ} {to from : ℕ → ℕ} {x : List ℤ} → MovedLines 0 n w s to from x x
 no-line = record { long = refl; there = λ l m a b. absurd (omega arith); other = λ e h. refl }
 
@@ -69,9 +78,10 @@ pub next-line :
     MovedLines (l + 1) n w s (toOf back p) (fromOf back p) x z
 unfolding movedLine
 next-line {many} {n} {w} {s} {p} back l {x} {y} {z} h q b a e = rw e (record {
-  long = length-spread n _ _ y ∙ a .long;
+  long = length-scattered n _ _ y ∙ a .long;
   there = λ i m g d. go i m g d (ℕ-discrete i l);
-  other = λ k f. spread-other n _ _ y k (λ m d. f l _ (omega arith) (t .below m d)) ∙ a .other k (λ i m g d. f i m (omega arith) d);
+  other = λ k f. scattered-other n _ _ y k (λ m d. f l _ (omega arith) (t .below m d))
+      ∙ a .other k (λ i m g d. f i m (omega arith) d);
 })
   where
     t : Permutes n (toOf back p)
@@ -80,16 +90,17 @@ next-line {many} {n} {w} {s} {p} back l {x} {y} {z} h q b a e = rw e (record {
     u : Permutes n (fromOf back p)
     u = from-permutes back q
 
-    go : (i m : ℕ) → i < l + 1 → m < n → Dec (i ≡ l) → at (movedLine back n p (l * w) s y) (i * w + toOf back p m * s) ≡ at x (i * w + fromOf back p m * s)
+    go : (i m : ℕ) → i < l + 1 → m < n → Dec (i ≡ l) →
+        at (movedLine back n p (l * w) s y) (i * w + toOf back p m * s) ≡ at x (i * w + fromOf back p m * s)
     go i m g d (yes k) =
         rw k
-        (spread-at n (λ m. l * w + toOf back p m * s) _ y
+        (scattered-at n (λ m. l * w + toOf back p m * s) _ y
         (λ j v. omega (arith, h .inside l _ b (t .below j v), a .long))
         (λ j f v r d′ e′. apart t j f v r d′ (h .once l l _ _ b b (t .below j v) (t .below f r) e′ .1))
         m d
         ∙ a .other _ (λ j f v r e′. omega (arith, h .once l j _ f b (omega arith) (u .below m d) r e′ .0)))
     go i m g d (no k) =
-        spread-other n _ _ y _ (λ j v e′. k (h .once i l _ _ (omega arith) b (t .below m d) (t .below j v) e′ .0))
+        scattered-other n _ _ y _ (λ j v e′. k (h .once i l _ _ (omega arith) b (t .below m d) (t .below j v) e′ .0))
         ∙ a .there i m (omega arith) d
 
 -- the rows and then the columns
@@ -114,7 +125,8 @@ module _ (back : Bool) (n1 n2 : ℕ) {p q : ℕ → ℕ} (hp : Permutes n1 p) (h
   from-is false e = refl
 
   module _ {x z y : List ℤ} (room : n1 * n2 ≤ length x)
-      (r : MovedLines n1 n2 n2 1 (toOf back q) (fromOf back q) x z) (c : MovedLines n2 n1 1 n2 (toOf back p) (fromOf back p) z y) where
+      (r : MovedLines n1 n2 n2 1 (toOf back q) (fromOf back q) x z)
+      (c : MovedLines n2 n1 1 n2 (toOf back p) (fromOf back p) z y) where
     went : (e : ℕ) → e < n1 * n2 → at y (toOf back source e) ≡ at x (fromOf back source e)
     went e l =
         let i = row-below n1 n2 e l in
@@ -128,13 +140,13 @@ module _ (back : Bool) (n1 n2 : ℕ) {p q : ℕ → ℕ} (hp : Permutes n1 p) (h
     pub pair-moved : y ≡ movedBy back (n1 * n2) (λ e. p (e / n2) * n2 + q (e % n2)) x
     pair-moved =
         same-list (n1 * n2) y _
-        (c .long ∙ r .long ∙ sym (length-spread (n1 * n2) _ _ x))
+        (c .long ∙ r .long ∙ sym (length-scattered (n1 * n2) _ _ x))
         below
         (λ k l.
         c .other k (λ i m a b e. omega (arith, rows n1 n2 (n1 * n2) (omega arith) .inside m i b a))
         ∙ r .other k (λ i m a b e. omega (arith, rows n1 n2 (n1 * n2) (omega arith) .inside i m a b))
-        ∙ sym (spread-other (n1 * n2) _ _ x k (λ m b e. omega (arith, t .below m b))))
-        ∙ sym (moved-spread back (n1 * n2) source x)
+        ∙ sym (scattered-other (n1 * n2) _ _ x k (λ m b e. omega (arith, t .below m b))))
+        ∙ sym (moved-scattered back (n1 * n2) source x)
       where
         t : Permutes (n1 * n2) (toOf back source)
         t = to-permutes back (pair-permutes n1 n2 hp hq)
@@ -142,7 +154,8 @@ module _ (back : Bool) (n1 n2 : ℕ) {p q : ℕ → ℕ} (hp : Permutes n1 p) (h
         taken : ℕ → ℤ
         taken m = at x (fromOf back source m)
 
-        below : (k : ℕ) → k < n1 * n2 → at y k ≡ at (spread (n1 * n2) (toOf back source) taken x) k
+        below : (k : ℕ) → k < n1 * n2 → at y k ≡ at (scattered (n1 * n2) (toOf back source) taken x) k
         below k l =
             let b = t .from-below k l in
-            rw (t .to-from k l) at (went _ b ∙ sym (spread-at (n1 * n2) (toOf back source) taken x (λ m d. omega (arith, t .below m d)) (apart t) _ b))
+            rw (t .to-from k l) at (went _ b
+            ∙ sym (scattered-at (n1 * n2) (toOf back source) taken x (λ m d. omega (arith, t .below m d)) (apart t) _ b))

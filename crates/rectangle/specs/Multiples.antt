@@ -17,21 +17,23 @@ use Rattle.rules.specs.Factors.{Factor, matrix}
 use Rattle.rules.specs.Stages.{off, multiples}
 use Rattle.rules.specs.Shapes.{jointWeight}
 use Rattle.rules.specs.Laws.Lists.{off-self, off-other}
-use Rattle.rules.specs.Laws.Places.{true-false}
-use Rattle.rules.specs.Laws.Rect.{row-below, col-below, place-below, row-of, col-of}
+use Rattle.rules.specs.Laws.Membership.{true-false}
+use Rattle.rules.specs.Laws.Rectangles.{row-below, col-below, element-below, row-of, col-of}
 
 -- ---- the test, weight by weight
 multiples-yes : (S n : ℕ) (u : ℕ → ℤ) → ((k : ℕ) → k < n → natAbs (u k) % S ≡ 0) → multiples S n u ≡ true
 unfolding multiples
 multiples-yes S zero u h = refl
-multiples-yes S (suc n) u h = rw (eq-eqb (natAbs (u n) % S) 0 (h n (omega arith))) (multiples-yes S n u (λ k l. h k (omega arith)))
+multiples-yes S (suc n) u h =
+    rw (eq-eqb (natAbs (u n) % S) 0 (h n (omega arith))) (multiples-yes S n u (λ k l. h k (omega arith)))
 
 multiples-at : (S n : ℕ) (u : ℕ → ℤ) → multiples S n u ≡ true → (k : ℕ) → k < n → natAbs (u k) % S ≡ 0
 unfolding multiples
 multiples-at S zero u h k l = absurd (omega arith)
 multiples-at S (suc n) u h k l = go (λ g. multiples-at S n u g k) (eqb (natAbs (u n) % S) 0) refl h (ℕ-discrete k n)
   where
-    go : (multiples S n u ≡ true → k < n → natAbs (u k) % S ≡ 0) → (b : Bool) → eqb (natAbs (u n) % S) 0 ≡ b → cond b (multiples S n u) false ≡ true →
+    go : (multiples S n u ≡ true → k < n → natAbs (u k) % S ≡ 0) → (b : Bool) → eqb (natAbs (u n) % S) 0 ≡ b →
+        cond b (multiples S n u) false ≡ true →
         Dec (k ≡ n) → natAbs (u k) % S ≡ 0
     go ih true e g (yes q) = rw q (eqb-true (natAbs (u n) % S) 0 e)
     go ih true e g (no q) = ih g (omega arith)
@@ -59,7 +61,8 @@ both-tests true false false f g = refl
 both-tests false b true f g = sym (f refl .0)
 both-tests false b false f g = refl
 
-module _ (n1 n2 : ℕ) (A B : Factor) (e : ℕ) (l : e < n1 * n2) (ownA : natAbs (matrix A (e / n2) (e / n2)) ≡ unit) (ownB : natAbs (matrix B (e % n2) (e % n2)) ≡ unit) where
+module _ (n1 n2 : ℕ) (A B : Factor) (e : ℕ) (l : e < n1 * n2) (diagonalA : natAbs (matrix A (e / n2) (e / n2)) ≡ unit)
+    (diagonalB : natAbs (matrix B (e % n2) (e % n2)) ≡ unit) where
   i : ℕ
   i = e / n2
 
@@ -73,7 +76,8 @@ module _ (n1 n2 : ℕ) (A B : Factor) (e : ℕ) (l : e < n1 * n2) (ownA : natAbs
   jb = col-below n1 n2 e l
 
   -- the weight of element (m,k)
-  weight-at : (m k : ℕ) → k < n2 → natAbs (jointWeight n1 n2 A B e (m * n2 + k)) ≡ natAbs (matrix A (e / n2) m) * natAbs (matrix B (e % n2) k)
+  weight-at : (m k : ℕ) → k < n2 →
+      natAbs (jointWeight n1 n2 A B e (m * n2 + k)) ≡ natAbs (matrix A (e / n2) m) * natAbs (matrix B (e % n2) k)
   unfolding jointWeight
   weight-at m k b = rw (row-of n1 n2 m k b, col-of n1 n2 m k b) (abs-mul (matrix A (e / n2) m) (matrix B (e % n2) k))
 
@@ -101,10 +105,10 @@ module _ (n1 n2 : ℕ) (A B : Factor) (e : ℕ) (l : e < n1 * n2) (ownA : natAbs
       (λ m b. off-fine (matrix A) (e / n2) m
       (λ q.
       let k = m * n2 + e % n2 in
-      let p = place-below n1 n2 m (e % n2) b jb in
+      let p = element-below n1 n2 m (e % n2) b jb in
       let d : e ≢ k = λ z. q (ap (λ (t : ℕ). t / n2) z ∙ row-of n1 n2 m (e % n2) jb) in
       let g = multiples-at unit² (n1 * n2) u h k p in
-      times-unit (natAbs (matrix A (e / n2) m)) (natAbs (matrix B (e % n2) (e % n2))) ownB
+      times-unit (natAbs (matrix A (e / n2) m)) (natAbs (matrix B (e % n2) (e % n2))) diagonalB
       (rw (off-other (jointWeight n1 n2 A B) e k d, weight-at m (e % n2) jb) at g)))
 
   columns-whole : multiples unit² (n1 * n2) u ≡ true → multiples unit n2 (off (matrix B) (e % n2)) ≡ true
@@ -113,13 +117,14 @@ module _ (n1 n2 : ℕ) (A B : Factor) (e : ℕ) (l : e < n1 * n2) (ownA : natAbs
       (λ m b. off-fine (matrix B) (e % n2) m
       (λ q.
       let k = e / n2 * n2 + m in
-      let p = place-below n1 n2 (e / n2) m ib b in
+      let p = element-below n1 n2 (e / n2) m ib b in
       let d : e ≢ k = λ z. q (ap (λ (t : ℕ). t % n2) z ∙ col-of n1 n2 (e / n2) m b) in
       let g = multiples-at unit² (n1 * n2) u h k p in
-      times-unit (natAbs (matrix B (e % n2) m)) (natAbs (matrix A (e / n2) (e / n2))) ownA
+      times-unit (natAbs (matrix B (e % n2) m)) (natAbs (matrix A (e / n2) (e / n2))) diagonalA
       (rw NatL.mul-comm (rw (off-other (jointWeight n1 n2 A B) e k d, weight-at (e / n2) m b) at g))))
 
-  all-whole : multiples unit n1 (off (matrix A) (e / n2)) ≡ true → multiples unit n2 (off (matrix B) (e % n2)) ≡ true → multiples unit² (n1 * n2) u ≡ true
+  all-whole : multiples unit n1 (off (matrix A) (e / n2)) ≡ true → multiples unit n2 (off (matrix B) (e % n2)) ≡ true →
+      multiples unit² (n1 * n2) u ≡ true
   unfolding jointWeight
   all-whole h g = multiples-yes unit² (n1 * n2) u (λ k b. go k b (ℕ-discrete e k))
     where
@@ -128,8 +133,9 @@ module _ (n1 n2 : ℕ) (A B : Factor) (e : ℕ) (l : e < n1 * n2) (ownA : natAbs
       go k b (no q) =
           rw (off-other (jointWeight n1 n2 A B) e k q, abs-mul (matrix A (e / n2) (k / n2)) (matrix B (e % n2) (k % n2)))
           (both-units (natAbs (matrix A (e / n2) (k / n2))) (natAbs (matrix B (e % n2) (k % n2)))
-          (row-fine (matrix A) (e / n2) (k / n2) ownA (multiples-at unit n1 _ h (k / n2) (row-below n1 n2 k b)))
-          (row-fine (matrix B) (e % n2) (k % n2) ownB (multiples-at unit n2 _ g (k % n2) (col-below n1 n2 k b))))
+          (row-fine (matrix A) (e / n2) (k / n2) diagonalA (multiples-at unit n1 _ h (k / n2) (row-below n1 n2 k b)))
+          (row-fine (matrix B) (e % n2) (k % n2) diagonalB (multiples-at unit n2 _ g (k % n2) (col-below n1 n2 k b))))
 
-  pub joint-whole : multiples unit² (n1 * n2) (off (jointWeight n1 n2 A B) e) ≡ cond (multiples unit n1 (off (matrix A) (e / n2))) (multiples unit n2 (off (matrix B) (e % n2))) false
+  pub joint-whole : multiples unit² (n1 * n2) (off (jointWeight n1 n2 A B) e) ≡ cond (multiples unit n1 (off (matrix A) (e / n2)))
+      (multiples unit n2 (off (matrix B) (e % n2))) false
   joint-whole = both-tests _ _ _ (λ h. (rows-whole h, columns-whole h)) all-whole

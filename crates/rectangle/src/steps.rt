@@ -1,50 +1,57 @@
-// A pair of factors with weights: applied, undone and on allowances, row by row, in place. A step stops at the first number beyond the
-// bound, and the block is not looked at again then.
+// A pair of factors with weights: applied, undone and on allowances, row by row, in place. A step stops at the first number
+// beyond the bound, and the block is not looked at again then: later sums could leave 64 bits.
 ghost use mathlib.Core.Path.{_≡_};
 ghost use Prim.Native.Nat.{_*_, _<_};
 ghost use lib.ListN.{length};
-ghost use Rattle.rules.specs.Numbers.{bound};
-ghost use Rattle.rules.specs.Stages.{fill};
-ghost use Rattle.factor.specs.Reach.{Numbers};
-ghost use Rattle.factor.specs.Lies.{Lies};
-ghost use Rattle.factor.specs.Ways.{limitOf};
+ghost use Rattle.factor.specs.SumBounds.{Bounded};
+ghost use Rattle.factor.specs.LayoutInSheet.{InSheet};
+ghost use Rattle.factor.specs.Tasks.{limitOf};
 ghost use Rattle.factor.specs.Steps.{Step};
-ghost use Rattle.factor.specs.Walks.{walk};
-ghost use Rattle.joint.specs.Elements.{backOf};
-ghost use Rattle.joint.specs.Sizes.{newOf};
-ghost use Rattle.rectangle.specs.Order.{pairPlace};
-use factor::Spot;
-use factor::Way;
-use factor::place_of;
-use joint::rows::take_row;
-use joint::rows::unweigh_row;
+ghost use Rattle.rectangle.specs.UndoingOrder.{nthRow, weightsBy};
+use factor::Layout;
+use factor::nth_undone;
+use factor::run::Outcome;
+use factor::run::Run;
+use factor::run::Task;
+use factor::run::is_inverse;
+use joint::rows::run_row;
 
-// Applied, or on allowances: the row that is undone last comes first, so that no row looks at one written before it.
-pub fn weigh(way: Way, col: &[i32], fa: Spot, row: &[i32], fb: Spot, x: &mut [i32; 256]) -> bool
-    requires { ⌜ Lies (now col) fa × Lies (now row) fb × (fa .row < fa .order) × Numbers (limitOf way) (now x) × (length (now x) ≡ 256) ⌝ }
-    ensures { λ ok. ⌜ Step (limitOf way) (fa .order * fb .order) (fill (fa .order * fb .order) (newOf way (now (col .entry)) fa (now (row .entry)) fb (now (x .entry))) (now (x .entry))) ok (now (x .exit)) × (length (now (x .exit)) ≡ 256) ⌝ }
+// The row in turn s. Undone, the rows go in the order of the column sheet's factor; else the row that is undone last comes first,
+// so that no row looks at one written before it.
+fn nth_row(task: Task, fa: Layout, s: usize) -> usize
+    requires { ⌜ (s < fa .order) × (fa .row < fa .order) ⌝ }
+    ensures { λ r. ⌜ r ≡ nthRow task fa s ⌝ }
 {
-    let n = fa.order;
-    for s in 0..n {
-        let i = place_of(fa, n - 1 - s);
-        if !take_row(way, col, fa, row, fb, i, x) {
-            return false;
-        }
+    if is_inverse(task) {
+        return nth_undone(fa, s);
     }
-    true
+    let n = fa.order;
+    nth_undone(fa, n - 1 - s)
 }
 
-// Undone: the rows in the order of the column sheet's factor. After a number beyond the bound, later sums could leave 64 bits.
-pub fn unweigh(col: &[i32], fa: Spot, row: &[i32], fb: Spot, x: &mut [i32; 256]) -> bool
-    requires { ⌜ Lies (now col) fa × Lies (now row) fb × (fa .row < fa .order) × (fb .row < fb .order) × Numbers bound (now x) × (length (now x) ≡ 256) ⌝ }
-    ensures { λ ok. ⌜ Step bound (fa .order * fb .order) (walk (backOf (now (col .entry)) fa (now (row .entry)) fb) (pairPlace fa fb) (fa .order * fb .order) (now (x .entry))) ok (now (x .exit)) × (length (now (x .exit)) ≡ 256) ⌝ }
+// All rows, each in its turn.
+pub fn run_weights(
+    run: Run,
+    col: &[i32],
+    fa: Layout,
+    row: &[i32],
+    fb: Layout,
+    x: &mut [i32; 256],
+) -> Outcome
+    requires { ⌜ InSheet (now col) fa × InSheet (now row) fb × (fa .row < fa .order) × (fb .row < fb .order)
+        × Bounded (limitOf (run .task)) (now x) × (length (now x) ≡ 256) ⌝ }
+    ensures { λ r. ⌜ Step (limitOf (run .task)) (fa .order * fb .order)
+        (weightsBy run (now (col .entry)) fa (now (row .entry)) fb (now (x .entry))) (r .ok) (now (x .exit))
+        × (length (now (x .exit)) ≡ 256) ⌝ }
 {
+    let task = run.task;
     let n = fa.order;
     for s in 0..n {
-        let i = place_of(fa, s);
-        if !unweigh_row(col, fa, row, fb, i, x) {
-            return false;
+        let i = nth_row(task, fa, s);
+        let r = run_row(run, col, fa, row, fb, i, x);
+        if !r.ok {
+            return r;
         }
     }
-    true
+    Outcome { ok: true, stage: 0 }
 }

@@ -9,7 +9,8 @@ use lib.ListN.{length, drop}
 use Rattle.rules.specs.declared.Answer.{Answer}
 use Rattle.rules.specs.Numbers.{count}
 use Rattle.rules.specs.Factors.{factors}
-use Rattle.rules.specs.Stages.{Rule, Stage, Ran, done, beyond, runForward, runInverse, runAllowance}
+use Rattle.rules.specs.declared.Rule.{Rule}
+use Rattle.rules.specs.Stages.{Stage, Ran, done, beyond, runForward, runInverse, runAllowance}
 use Rattle.rules.specs.Shapes.{lineStages, jointStages}
 use Rattle.rules.specs.Recipes.{packed, numbersOf, leftOf}
 use Rattle.rules.specs.Answers.{accepted, counted, refused, _or-else_, checked, pairChecked}
@@ -42,7 +43,8 @@ spelling b = cond (eqb (length (leftOf b)) 0) accepted (refused 14 0 (length b -
 -- "The reader answers 14 for the whole byte string first, then 1 to 9, then 15"
 unfoldable pub read : List ℕ → List ℤ → Reply ℤ
 read b room =
-    reply (spelling b or-else checked (numbersOf b) or-else fitting (length (numbersOf b)) (length room)) (over (numbersOf b) room) room
+    reply (spelling b or-else checked (numbersOf b) or-else fitting (length (numbersOf b)) (length room))
+    (over (numbersOf b) room) room
 
 -- "the writer 1 to 9, then 15"
 unfoldable pub write : List ℤ → List ℕ → Reply ℕ
@@ -107,7 +109,8 @@ ranMemory (beyond s) y = y
 
 -- "12, 10 for the input, 10 for the output, then 11"; the output is written at the end
 unfoldable pub runReply : Plan → Ran → List ℤ → List ℤ → Reply ℤ
-runReply p ran x y = reply (p .sheets or-else sized 0 (p .size) x or-else sized 1 (p .size) y or-else ranAnswer 11 ran) (ranMemory ran y) y
+runReply p ran x y =
+    reply (p .sheets or-else sized 0 (p .size) x or-else sized 1 (p .size) y or-else ranAnswer 11 ran) (ranMemory ran y) y
 
 module _ (rule : Rule) (p : Plan) where
   -- x lent as the input, y as the output

@@ -16,7 +16,7 @@ use Rattle.rules.specs.Factors.{numbers, signsAt, above, entriesBefore, 
 use Rattle.rules.specs.Stages.{Stage, scale, fill, off, weighed, exact, through, exactProduct, exactScale}
 use Rattle.rules.specs.Shapes.{stageOf, lineStage, lineStages}
 use Rattle.rules.specs.Calls.{builtIn, firstPrinting}
-use Rattle.rules.specs.Laws.Rect.{row-of, col-of, place-below}
+use Rattle.rules.specs.Laws.Rectangles.{row-of, col-of, element-below}
 
 abbrev neg : ℕ → ℤ
 neg n = negℤ (pos n)
@@ -30,15 +30,15 @@ printedDCT =
     ∷ pos 2706 ∷ neg 6533 ∷ pos 6533 ∷ neg 2706
     ∷ []
 
-abbrev pub stagesOf : List ℤ → List Stage
-stagesOf s = lineStages 4 (factors s)
+abbrev pub stagesOfFour : List ℤ → List Stage
+stagesOfFour s = lineStages 4 (factors s)
 
 -- element (i,j) of the exact product of a recipe of four points: where 1 at place j, 0 elsewhere, goes at place i; and its scale
 unfoldable pub element : List ℤ → ℕ → ℕ → ℤ
-element s i j = at (exactProduct 4 (stagesOf s) (fill 4 (λ k. cond (eqb k j) (pos 1) (pos 0)) (replicate 4 (pos 0)))) i
+element s i j = at (exactProduct 4 (stagesOfFour s) (fill 4 (λ k. cond (eqb k j) (pos 1) (pos 0)) (replicate 4 (pos 0)))) i
 
 abbrev pub scaleOf : List ℤ → ℕ
-scaleOf s = exactScale (stagesOf s)
+scaleOf s = exactScale (stagesOfFour s)
 
 -- how far it is from element (j,i) of the DCT, in ten-thousandths of the scale
 abbrev pub distance : List ℤ → ℕ → ℕ → ℕ
@@ -54,11 +54,13 @@ isCosine s = all 16 (λ e. leb (distance s (e / 4) (e % 4)) (50 * scaleOf s))
 
 -- the corrected table passes it, and the first printing does not
 pub cosine : isCosine builtIn ≡ true
-unfolding isCosine all element exactProduct exactScale exact scale through fill off weighed sum factors factorsFrom factorAt numbers signsAt above entriesBefore triangle kindOf hasEntry matrix stageOf lineStage lineStages
+unfolding isCosine all element exactProduct exactScale exact scale through fill off weighed sum factors factorsFrom factorAt
+    numbers signsAt above entriesBefore triangle kindOf hasEntry matrix stageOf lineStage lineStages
 cosine = refl
 
 pub misprinted : isCosine firstPrinting ≡ false
-unfolding isCosine all element exactProduct exactScale exact scale through fill off weighed sum factors factorsFrom factorAt numbers signsAt above entriesBefore triangle kindOf hasEntry matrix stageOf lineStage lineStages
+unfolding isCosine all element exactProduct exactScale exact scale through fill off weighed sum factors factorsFrom factorAt
+    numbers signsAt above entriesBefore triangle kindOf hasEntry matrix stageOf lineStage lineStages
 misprinted = refl
 
 -- what the test says of each element
@@ -77,5 +79,6 @@ pub cosine-close : (i j : ℕ) → i < 4 → j < 4 → distance builtIn i j ≤ 
 unfolding isCosine
 cosine-close i j a b =
     let e : leb (distance builtIn ((i * 4 + j) / 4) ((i * 4 + j) % 4)) (50 * scaleOf builtIn) ≡ true =
-    all-at 16 (λ e. leb (distance builtIn (e / 4) (e % 4)) (50 * scaleOf builtIn)) cosine (i * 4 + j) (place-below 4 4 i j a b) in
+    all-at 16 (λ e. leb (distance builtIn (e / 4) (e % 4)) (50 * scaleOf builtIn)) cosine (i * 4 + j)
+    (element-below 4 4 i j a b) in
     leb-true _ _ (rw (row-of 0 4 i j b, col-of 0 4 i j b) at e)

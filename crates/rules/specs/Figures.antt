@@ -8,14 +8,20 @@ use Rattle.whole.specs.Sum.{sum}
 use Rattle.rules.specs.declared.Answer.{Answer}
 use Rattle.rules.specs.declared.Kind.{Kind}
 use Rattle.rules.specs.declared.Kind.the-variants.{Lower, Upper, Single}
-use Rattle.rules.specs.Sheets.{go, times, among, faultOf, one, kindOf, triangle, weights, body, factor, closed, head, reading}
-use Rattle.rules.specs.Factors.{Factor, numbers, signsAt, above, entriesBefore, factorAt, factorsFrom, factors, hasEntry, matrix}
-use Rattle.rules.specs.Stages.{nearest, R, share, ceiling, fill, inside, off, weighed, multiples, putBack, forward, recover, undo, allow, later, run, runForward, runInverse, runAllowance}
-use Rattle.rules.specs.Shapes.{those, byTurn, turn, order, inRow, stageOf, lineStage, lineStages, jointSource, jointSign, jointWeight, jointShared, jointStage, jointStages}
+use Rattle.rules.specs.Sheets.{go, times, among, faultOf, one, kindOf, triangle, weights, body, factor, closed, head}
+use Rattle.rules.specs.Sheets.{reading}
+use Rattle.rules.specs.Factors.{Factor, numbers, signsAt, above, entriesBefore, factorAt, factorsFrom, factors, hasEntry}
+use Rattle.rules.specs.Factors.{matrix}
+use Rattle.rules.specs.declared.Rule.the-variants.{Nearest}
+use Rattle.rules.specs.Stages.{R, share, ceiling, fill, inside, off, weighed, multiples, putBack, forward, recover, undo}
+use Rattle.rules.specs.Stages.{allow, later, run, runForward, runInverse, runAllowance}
+use Rattle.rules.specs.Shapes.{those, byTurn, turn, order, inRow, stageOf, lineStage, lineStages, jointSource, jointSign}
+use Rattle.rules.specs.Shapes.{jointWeight, jointShared, jointStage, jointStages}
 use Rattle.rules.specs.Recipes.{code, value, spell, group, groups, packed, unpack, left, written}
 use Rattle.rules.specs.Answers.{_or-else_, accepted, counted, refused, further, first, matching, pairChecked}
 use Rattle.rules.specs.Strips.{StripReply, stripAnswer, outputs, bytesOf, strip}
-use Rattle.rules.specs.Calls.{Reply, reply, read, write, builtIn, firstPrinting, writeTable, line, joint, ranAnswer, ranMemory, runReply, forwardCall, inverseCall, allowanceCall}
+use Rattle.rules.specs.Calls.{Reply, reply, read, write, builtIn, firstPrinting, writeTable, line, joint, ranAnswer}
+use Rattle.rules.specs.Calls.{ranMemory, runReply, forwardCall, inverseCall, allowanceCall}
 
 -- what a case shows, and what document 01 prints for it
 pub data Shown : Type 0 where
@@ -37,7 +43,7 @@ spells r a l = record { found = bytes-of r; printed = bytes-of (record { answer 
 -- a forward strip of the built-in recipe
 abbrev strips : List ℤ → List ℤ → List ℕ → Answer → List ℤ → List ℕ → Figure
 strips x y b a out marks = record {
-  found = strip-of (strip (line builtIn) (forwardCall nearest (line builtIn)) x y b);
+  found = strip-of (strip (line builtIn) (forwardCall Nearest (line builtIn)) x y b);
   printed = strip-of (record { answer = a; output = out; bytes = marks });
 }
 
@@ -88,41 +94,54 @@ e = pos 2 ∷ pos 1 ∷ pos 2 ∷ pos 1 ∷ pos 1 ∷ pos 4096 ∷ []
 pub table : List Figure
 table =
     -- a: "(3,5) to (3,7); (-2,5) to (-2,4); (-1,5) to (-1,5); bytes 04 02 04 02 02 80 20; allowance 0, 2048"
-    gives (forwardCall nearest (line a) (two (pos 3) (pos 5)) found₂) accepted (two (pos 3) (pos 7))
-    ∷ gives (forwardCall nearest (line a) (two (neg 2) (pos 5)) found₂) accepted (two (neg 2) (pos 4))
-    ∷ gives (forwardCall nearest (line a) (two (neg 1) (pos 5)) found₂) accepted (two (neg 1) (pos 5))
+    gives (forwardCall Nearest (line a) (two (pos 3) (pos 5)) found₂) accepted (two (pos 3) (pos 7))
+    ∷ gives (forwardCall Nearest (line a) (two (neg 2) (pos 5)) found₂) accepted (two (neg 2) (pos 4))
+    ∷ gives (forwardCall Nearest (line a) (two (neg 1) (pos 5)) found₂) accepted (two (neg 1) (pos 5))
     ∷ spells (write a (1 ∷ 1 ∷ 1 ∷ 1 ∷ 1 ∷ 1 ∷ 1 ∷ 1 ∷ [])) (counted 7) (0x04 ∷ 0x02 ∷ 0x04 ∷ 0x02 ∷ 0x02 ∷ 0x80 ∷ 0x20 ∷ 1 ∷ [])
     ∷ gives (read a-bytes (pos 2 ∷ pos 1 ∷ pos 2 ∷ pos 9 ∷ pos 9 ∷ pos 9 ∷ [])) (counted 6) a
     ∷ gives (read a-bytes found₂) (refused 15 0 6) found₂
-    ∷ gives (allowanceCall nearest (line a) found₂) accepted (two (pos 0) (pos 2048))
+    ∷ gives (allowanceCall Nearest (line a) found₂) accepted (two (pos 0) (pos 2048))
     -- b: "(3,5) to (-7,-7), back to (3,5)", and the allowance that "Program" prints
-    ∷ gives (forwardCall nearest (line b) (two (pos 3) (pos 5)) found₂) accepted (two (neg 7) (neg 7))
-    ∷ gives (inverseCall nearest (line b) (two (neg 7) (neg 7)) found₂) accepted (two (pos 3) (pos 5))
-    ∷ gives (allowanceCall nearest (line b) found₂) accepted (two (pos 5120) (pos 2048))
+    ∷ gives (forwardCall Nearest (line b) (two (pos 3) (pos 5)) found₂) accepted (two (neg 7) (neg 7))
+    ∷ gives (inverseCall Nearest (line b) (two (neg 7) (neg 7)) found₂) accepted (two (pos 3) (pos 5))
+    ∷ gives (allowanceCall Nearest (line b) found₂) accepted (two (pos 5120) (pos 2048))
     -- c: "(10,20,30) to (30,10,20)"
-    ∷ gives (forwardCall nearest (line c) (three (pos 10) (pos 20) (pos 30)) (three (pos 0) (pos 0) (pos 0))) accepted (three (pos 30) (pos 10) (pos 20))
+    ∷ gives (forwardCall Nearest (line c) (three (pos 10) (pos 20) (pos 30)) (three (pos 0) (pos 0) (pos 0))) accepted
+    (three (pos 30) (pos 10) (pos 20))
     -- d: "(4,7,3) to (4,-2,3); allowance 0, 2048, 0"
-    ∷ gives (forwardCall nearest (line d) (three (pos 4) (pos 7) (pos 3)) (three (pos 0) (pos 0) (pos 0))) accepted (three (pos 4) (neg 2) (pos 3))
-    ∷ gives (allowanceCall nearest (line d) (three (pos 0) (pos 0) (pos 0))) accepted (three (pos 0) (pos 2048) (pos 0))
+    ∷ gives (forwardCall Nearest (line d) (three (pos 4) (pos 7) (pos 3)) (three (pos 0) (pos 0) (pos 0))) accepted
+    (three (pos 4) (neg 2) (pos 3))
+    ∷ gives (allowanceCall Nearest (line d) (three (pos 0) (pos 0) (pos 0))) accepted (three (pos 0) (pos 2048) (pos 0))
     -- e: "(16777215,0) accepted; (16777215,1) refused 11 at stage 1; (16777216,0) at stage 0; allowance 0, 0"
-    ∷ gives (forwardCall nearest (line e) (two (pos 16777215) (pos 0)) found₂) accepted (two (pos 16777215) (pos 16777215))
-    ∷ gives (forwardCall nearest (line e) (two (pos 16777215) (pos 1)) found₂) (refused 11 0 1) found₂
-    ∷ gives (forwardCall nearest (line e) (two (pos 16777216) (pos 0)) found₂) (refused 11 0 0) found₂
-    ∷ gives (allowanceCall nearest (line e) found₂) accepted (two (pos 0) (pos 0))
+    ∷ gives (forwardCall Nearest (line e) (two (pos 16777215) (pos 0)) found₂) accepted (two (pos 16777215) (pos 16777215))
+    ∷ gives (forwardCall Nearest (line e) (two (pos 16777215) (pos 1)) found₂) (refused 11 0 1) found₂
+    ∷ gives (forwardCall Nearest (line e) (two (pos 16777216) (pos 0)) found₂) (refused 11 0 0) found₂
+    ∷ gives (allowanceCall Nearest (line e) found₂) accepted (two (pos 0) (pos 0))
     -- f: "sheet a on both sides: rows (1,1),(0,0) to (1,2),(1,1)", and back
-    ∷ gives (forwardCall nearest (joint a a) (four (pos 1) (pos 1) (pos 0) (pos 0)) found₄) accepted (four (pos 1) (pos 2) (pos 1) (pos 1))
-    ∷ gives (inverseCall nearest (joint a a) (four (pos 1) (pos 2) (pos 1) (pos 1)) found₄) accepted (four (pos 1) (pos 1) (pos 0) (pos 0))
-    -- g: "built-in: (100,0,0,0) to (50,50,50,50)", and back: from the top for kind 2, from the bottom for kind 3; in both printings
-    ∷ gives (forwardCall nearest (line builtIn) (four (pos 100) (pos 0) (pos 0) (pos 0)) found₄) accepted (four (pos 50) (pos 50) (pos 50) (pos 50))
-    ∷ gives (inverseCall nearest (line builtIn) (four (pos 50) (pos 50) (pos 50) (pos 50)) found₄) accepted (four (pos 100) (pos 0) (pos 0) (pos 0))
-    ∷ gives (forwardCall nearest (line firstPrinting) (four (pos 100) (pos 0) (pos 0) (pos 0)) found₄) accepted (four (pos 50) (pos 50) (pos 50) (pos 50))
-    ∷ gives (inverseCall nearest (line firstPrinting) (four (pos 50) (pos 50) (pos 50) (pos 50)) found₄) accepted (four (pos 100) (pos 0) (pos 0) (pos 0))
+    ∷ gives (forwardCall Nearest (joint a a) (four (pos 1) (pos 1) (pos 0) (pos 0)) found₄) accepted
+    (four (pos 1) (pos 2) (pos 1) (pos 1))
+    ∷ gives (inverseCall Nearest (joint a a) (four (pos 1) (pos 2) (pos 1) (pos 1)) found₄) accepted
+    (four (pos 1) (pos 1) (pos 0) (pos 0))
+    -- g: "built-in: (100,0,0,0) to (50,50,50,50)", and back: from the top for kind 2, from the bottom for kind 3; in both
+    -- printings
+    ∷ gives (forwardCall Nearest (line builtIn) (four (pos 100) (pos 0) (pos 0) (pos 0)) found₄) accepted
+    (four (pos 50) (pos 50) (pos 50) (pos 50))
+    ∷ gives (inverseCall Nearest (line builtIn) (four (pos 50) (pos 50) (pos 50) (pos 50)) found₄) accepted
+    (four (pos 100) (pos 0) (pos 0) (pos 0))
+    ∷ gives (forwardCall Nearest (line firstPrinting) (four (pos 100) (pos 0) (pos 0) (pos 0)) found₄) accepted
+    (four (pos 50) (pos 50) (pos 50) (pos 50))
+    ∷ gives (inverseCall Nearest (line firstPrinting) (four (pos 50) (pos 50) (pos 50) (pos 50)) found₄) accepted
+    (four (pos 100) (pos 0) (pos 0) (pos 0))
     -- R-2: "sends (0,100,0,0) to (163,-94,94,-65)", and as corrected to "(65,28,-28,-65)"
-    ∷ gives (forwardCall nearest (line firstPrinting) (four (pos 0) (pos 100) (pos 0) (pos 0)) found₄) accepted (four (pos 163) (neg 94) (pos 94) (neg 65))
-    ∷ gives (forwardCall nearest (line builtIn) (four (pos 0) (pos 100) (pos 0) (pos 0)) found₄) accepted (four (pos 65) (pos 28) (neg 28) (neg 65))
+    ∷ gives (forwardCall Nearest (line firstPrinting) (four (pos 0) (pos 100) (pos 0) (pos 0)) found₄) accepted
+    (four (pos 163) (neg 94) (pos 94) (neg 65))
+    ∷ gives (forwardCall Nearest (line builtIn) (four (pos 0) (pos 100) (pos 0) (pos 0)) found₄) accepted
+    (four (pos 65) (pos 28) (neg 28) (neg 65))
     -- cosine coefficients "come from the inverse run": of a flat block, and of a slope
-    ∷ gives (inverseCall nearest (line builtIn) (four (pos 100) (pos 100) (pos 100) (pos 100)) found₄) accepted (four (pos 200) (pos 0) (pos 0) (pos 0))
-    ∷ gives (inverseCall nearest (line builtIn) (four (pos 100) (pos 110) (pos 120) (pos 130)) found₄) accepted (four (pos 230) (neg 22) (pos 0) (neg 1))
+    ∷ gives (inverseCall Nearest (line builtIn) (four (pos 100) (pos 100) (pos 100) (pos 100)) found₄) accepted
+    (four (pos 200) (pos 0) (pos 0) (pos 0))
+    ∷ gives (inverseCall Nearest (line builtIn) (four (pos 100) (pos 110) (pos 120) (pos 130)) found₄) accepted
+    (four (pos 230) (neg 22) (pos 0) (neg 1))
     ∷ gives (writeTable builtIn found₂) (refused 15 0 45) found₂
     ∷ gives (writeTable firstPrinting found₂) (refused 15 0 45) found₂
     -- R-1: three blocks end to end, the second beyond the bound; no blocks; no whole number of blocks
@@ -138,7 +157,12 @@ table =
 
 -- every case shows what document 01 prints
 pub figures : map (λ (f : Figure). f .found) table ≡ map (λ (f : Figure). f .printed) table
-unfolding table sum go times among faultOf one kindOf triangle weights body factor closed head reading numbers signsAt above entriesBefore factorAt factorsFrom factors hasEntry matrix R share ceiling fill inside off weighed multiples putBack forward recover undo allow later run runForward runInverse runAllowance those byTurn turn order inRow stageOf lineStage lineStages jointSource jointSign jointWeight jointShared jointStage jointStages code value spell group groups packed unpack left _or-else_ further first matching pairChecked reply read write writeTable line joint ranAnswer ranMemory runReply forwardCall inverseCall allowanceCall stripAnswer outputs bytesOf strip
+unfolding table sum go times among faultOf one kindOf triangle weights body factor closed head reading numbers signsAt above
+    entriesBefore factorAt factorsFrom factors hasEntry matrix R share ceiling fill inside off weighed multiples putBack forward
+    recover undo allow later run runForward runInverse runAllowance those byTurn turn order inRow stageOf lineStage lineStages
+    jointSource jointSign jointWeight jointShared jointStage jointStages code value spell group groups packed unpack left
+    _or-else_ further first matching pairChecked reply read write writeTable line joint ranAnswer ranMemory runReply forwardCall
+    inverseCall allowanceCall stripAnswer outputs bytesOf strip
 figures = refl
 
 -- the recovery orders of a rectangle of three by three, kind 4 with rows 1 and 2

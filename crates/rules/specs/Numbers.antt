@@ -1,4 +1,5 @@
--- "NUMBERS AND THEIR BOUNDS" of document 01: each limit once. (The code reads them from `Sheet` and `Block`; its proofs tie the two.)
+-- "NUMBERS AND THEIR BOUNDS" of document 01: each limit once. (The code reads them from `Sheet` and `Block`; its proofs tie the
+-- two.)
 use mathlib.Core.List.{List}
 use Prim.Native.Nat.{ℕ}
 use lib.IntN.{ℤ, pos, natAbs}

@@ -69,7 +69,8 @@ module _ (n1 n2 : ℕ) (A B : Factor) where
   jointShared e = inRow A (e / n2) + 2 * inRow B (e % n2)
 
   unfoldable pub jointStage : Stage
-  jointStage = stageOf (A .kind) (move unit² jointSource) (weigh unit² jointSign jointWeight (order (A .kind) (n1 * n2) jointShared))
+  jointStage =
+      stageOf (A .kind) (move unit² jointSource) (weigh unit² jointSign jointWeight (order (A .kind) (n1 * n2) jointShared))
 
 -- sheets that match, factor by factor
 unfoldable pub jointStages : ℕ → ℕ → List Factor → List Factor → List Stage

@@ -1,4 +1,5 @@
--- "FACTOR RULES", "ALLOWANCE" and the exact product of document 01, over a stage: a factor of a line, or a pair of factors of a rectangle.
+-- "FACTOR RULES", "ALLOWANCE" and the exact product of document 01, over a stage: a factor of a line, or a pair of factors of a
+-- rectangle.
 -- N numbers go through a list of stages: N is n for a line, n1·n2 for a rectangle in reading order.
 use mathlib.Core.Bool.{Bool, true, false, cond}
 use mathlib.Core.List.{List, [], _∷_, reverse}
@@ -8,20 +9,19 @@ use lib.IntN.{ℤ, pos, natAbs, _+ℤ_, _-ℤ_, _*ℤ_}
 use lib.ListN.{set, replicate}
 use lib.Signed.{shrZ}
 use Rattle.whole.specs.Sum.{sum}
+use Rattle.rules.specs.declared.Rule.{Rule}
+use Rattle.rules.specs.declared.Rule.the-variants.{Nearest}
 use Rattle.rules.specs.Numbers.{bound, mostAllowance, at}
 
 -- ---- the rounding
 -- document 01 has one rule, "nearest, halves upward"; `shrZ s m` is the floor of s / m, also below zero
-pub data Rule : Type 0 where
-  nearest : Rule
-
 -- "R(s) is the floor of (s + 2048)/4096", "R2(s) is the floor of (s + 8388608)/16777216": one function of the scale S
 unfoldable pub R : Rule → ℕ → ℤ → ℤ
-R nearest S s = shrZ (s +ℤ pos (S / 2)) S
+R Nearest S s = shrZ (s +ℤ pos (S / 2)) S
 
 -- what one rounding adds to an allowance
 unfoldable pub share : Rule → ℕ
-share nearest = 2048
+share Nearest = 2048
 
 -- the quotient s / S upward
 unfoldable pub ceiling : ℕ → ℤ → ℤ
@@ -79,7 +79,8 @@ module _ (rule : Rule) (N : ℕ) where
   undo (move S p) v = putBack N p v
   undo (weigh S d w o) v = recover S d w o v
 
-  -- "a row gets b(m) + ceiling of (sum of |a(m,k)|·b(k) / 4096), plus 2048 if any entry of that row off the diagonal is no multiple of 4096"
+  -- "a row gets b(m) + ceiling of (sum of |a(m,k)|·b(k) / 4096), plus 2048 if any entry of that row off the diagonal is no
+  -- multiple of 4096"
   unfoldable pub allow : Stage → List ℤ → List ℤ
   allow (move S p) b = fill N (λ e. at b (p e)) b
   allow (weigh S d w o) b =

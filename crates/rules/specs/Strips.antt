@@ -1,5 +1,5 @@
--- "WHOLE STRIPS", request R-1: "The statement is made once for both directions and both shapes". p is the plan of a line or of a pair
--- of sheets, and call the single call over it, forward or inverse.
+-- "WHOLE STRIPS", request R-1: "The statement is made once for both directions and both shapes". p is the plan of a line or of a
+-- pair of sheets, and call the single call over it, forward or inverse.
 use mathlib.Core.Bool.{cond}
 use mathlib.Core.List.{List, [], _∷_, _++_}
 use mathlib.Core.Path.{_≡_}
@@ -8,8 +8,9 @@ use lib.Dec.{eqb}
 use lib.IntN.{ℤ}
 use lib.ListN.{length, take, drop}
 use Rattle.rules.specs.declared.Answer.{Answer}
+use Rattle.rules.specs.declared.Rule.{Rule}
 use Rattle.rules.specs.Answers.{accepted, refused, _or-else_}
-use Rattle.rules.specs.Calls.{Reply, Plan, sized}
+use Rattle.rules.specs.Calls.{Reply, Plan, sized, forwardCall, inverseCall}
 
 -- "an output of the same length and one byte for each block"
 pub record StripReply : Type 0 where
@@ -38,7 +39,8 @@ module _ (p : Plan) (call : List ℤ → List ℤ → Reply ℤ) where
   abbrev pub blockReply : List ℤ → List ℤ → ℕ → Reply ℤ
   blockReply x y k = call (block (p .size) k x) (block (p .size) k y)
 
-  -- "Each block gets its single call's output": k blocks; a block refused for range keeps its part as found, since its single call does
+  -- "Each block gets its single call's output": k blocks; a block refused for range keeps its part as found, since its single
+  -- call does
   unfoldable pub outputs : ℕ → List ℤ → List ℤ → List ℤ
   outputs zero x y = []
   outputs (suc k) x y = outputs k x y ++ blockReply x y k .memory
@@ -56,3 +58,10 @@ module _ (p : Plan) (call : List ℤ → List ℤ → Reply ℤ) where
       cond (eqb (a .number) 0)
       (record { answer = a; output = outputs blocks x y; bytes = bytesOf blocks x y })
       (record { answer = a; output = y; bytes = b })
+
+-- "both directions": each block its forward call, or its inverse call
+abbrev pub forwardStrip : Rule → Plan → List ℤ → List ℤ → List ℕ → StripReply
+forwardStrip rule p x y b = strip p (forwardCall rule p) x y b
+
+abbrev pub inverseStrip : Rule → Plan → List ℤ → List ℤ → List ℕ → StripReply
+inverseStrip rule p x y b = strip p (inverseCall rule p) x y b

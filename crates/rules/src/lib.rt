@@ -45,6 +45,11 @@ pub enum Kind {
     Single,
 }
 
+// The rule by which a sum is rounded. Document 01 has one: to the nearest whole number, halves upward.
+pub enum Rule {
+    Nearest,
+}
+
 // What a number of a sheet stands for: with a row or a place the order, and with a place where its permutation starts.
 pub enum Item {
     Order,

@@ -87,7 +87,8 @@ module _ (v : List ℤ) where
   block-part e h = take-all (length v - e) (drop e v) (omega (arith, length-drop e v)) ∙ ap (λ (k : ℕ). drop k v) h
 
   pub session-parts : (e : ℕ) (y z : List ℤ) → e ≡ blockAt v → y ≡ v → z ≡ v
-      → ran (take (e - 1) (drop 1 v)) (take (length v - e) (drop e v)) (take (length y - e) (drop e y)) (take (length z - e) (drop e z))
+      → ran (take (e - 1) (drop 1 v)) (take (length v - e) (drop e v)) (take (length y - e) (drop e y))
+      (take (length z - e) (drop e z))
       ≡ session v
   session-parts e y z h f g = rw (f, g, sheet-part e h, block-part e h)
 

@@ -8,7 +8,7 @@ use lib.ListN.{length, getD, take, drop}
 use lib.Signed.{nonNeg}
 use Rattle.rules.specs.declared.Answer.{Answer}
 use Rattle.rules.specs.Numbers.{at, count}
-use Rattle.rules.specs.Stages.{nearest}
+use Rattle.rules.specs.declared.Rule.the-variants.{Nearest}
 use Rattle.rules.specs.Recipes.{numbersOf}
 use Rattle.rules.specs.Answers.{accepted, refused, _or-else_}
 use Rattle.rules.specs.Calls.{Reply, spelling, line, forwardCall, inverseCall, allowanceCall}
@@ -69,13 +69,13 @@ replied word r = cond (eqb (r .answer .number) 0) (lineOf word (r .memory)) (ref
 -- ---- "prints the forward result, the inverse of that, the allowance"; y and z are lent as outputs
 unfoldable pub afterwards : List ℤ → List ℤ → List ℤ → List ℕ
 afterwards s y z =
-    let back = inverseCall nearest (line s) y z in
-    replied sayBack back ++ replied sayAllow (allowanceCall nearest (line s) (back .memory))
+    let back = inverseCall Nearest (line s) y z in
+    replied sayBack back ++ replied sayAllow (allowanceCall Nearest (line s) (back .memory))
 
 -- "after a refused forward run nothing follows"
 unfoldable pub ran : List ℤ → List ℤ → List ℤ → List ℤ → List ℕ
 ran s x y z =
-    let there = forwardCall nearest (line s) x y in
+    let there = forwardCall Nearest (line s) x y in
     replied sayForward there ++ cond (eqb (there .answer .number) 0) (afterwards s (there .memory) z) []
 
 -- ---- "a count c, c sheet numbers, then the block"
@@ -92,7 +92,8 @@ blockIn v = drop (blockAt v) v
 abbrev pub sheetIn : List ℤ → List ℤ
 sheetIn v = take (count v 0) (drop 1 v)
 
--- "c missing or not between 0 and the numbers after it: `refused 10 0 0`"; a missing c counts as 0, and then the block would start past the end
+-- "c missing or not between 0 and the numbers after it: `refused 10 0 0`"; a missing c counts as 0, and then the block would
+-- start past the end
 unfoldable pub counts : List ℤ → Answer
 counts v = cond (nonNeg (at v 0)) (cond (leb (blockAt v) (length v)) accepted (refused 10 0 0)) (refused 10 0 0)
 

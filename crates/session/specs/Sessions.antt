@@ -4,7 +4,7 @@ use mathlib.Core.Path.{_≡_, sym, ap}
 use borrow.Author.Tests.{eq-eqb, ne-eqb}
 use lib.IntN.{ℤ}
 use Rattle.rules.specs.declared.Answer.{Answer}
-use Rattle.rules.specs.Stages.{nearest}
+use Rattle.rules.specs.declared.Rule.the-variants.{Nearest}
 use Rattle.rules.specs.Calls.{Reply, Gives, line, forwardCall, inverseCall, allowanceCall}
 use Rattle.session.specs.Program.{sayForward, sayBack, sayAllow, replied, afterwards, ran}
 
@@ -16,13 +16,13 @@ gave-is : {a : Answer} {m : List ℤ} {r : Reply ℤ} → Gives a m r → gave a
 gave-is g = rw (g .0, g .1)
 
 module _ (s y z : List ℤ) {a b : Answer} {m n : List ℤ} where
-  pub afterwards-is : Gives a m (inverseCall nearest (line s) y z) → Gives b n (allowanceCall nearest (line s) m)
+  pub afterwards-is : Gives a m (inverseCall Nearest (line s) y z) → Gives b n (allowanceCall Nearest (line s) m)
       → replied sayBack (gave a m) ++ replied sayAllow (gave b n) ≡ afterwards s y z
   unfolding afterwards
   afterwards-is g h = rw (gave-is g, gave-is h, g .1)
 
-module _ (s x y z : List ℤ) {a : Answer} {m : List ℤ} (g : Gives a m (forwardCall nearest (line s) x y)) where
-  number-is : forwardCall nearest (line s) x y .answer .number ≡ a .number
+module _ (s x y z : List ℤ) {a : Answer} {m : List ℤ} (g : Gives a m (forwardCall Nearest (line s) x y)) where
+  number-is : forwardCall Nearest (line s) x y .answer .number ≡ a .number
   number-is = ap (λ (k : Answer). k .number) (sym (g .0))
 
   pub ran-stops : (a .number ≡ 0 → ⊥) → replied sayForward (gave a m) ≡ ran s x y z

@@ -11,12 +11,14 @@ use lib.IntN.{ℤ, natAbs}
 use lib.ListN.{length, length-append}
 use lib.Signed.{nonNeg}
 use Rattle.rules.specs.declared.Answer.{Answer}
-use Rattle.rules.specs.Stages.{nearest}
+use Rattle.rules.specs.declared.Rule.the-variants.{Nearest}
 use Rattle.rules.specs.Recipes.{numbersOf}
 use Rattle.rules.specs.Calls.{Reply, line, forwardCall, inverseCall, allowanceCall}
 use Rattle.laws.specs.Accepted.{accepted-read, accepted-order}
-use Rattle.laws.specs.Plans.{forward-gives, forward-accepted, forward-length, inverse-gives, inverse-accepted, inverse-length, allowance-gives, allowance-accepted, allowance-length}
-use Rattle.session.specs.Program.{power, digitAt, digits, decimal, spaced, lineOf, sayForward, sayBack, sayAllow, refusal, replied, afterwards, ran, inputAnswer, session, printed}
+use Rattle.laws.specs.Plans.{forward-gives, forward-accepted, forward-length, inverse-gives, inverse-accepted, inverse-length}
+use Rattle.laws.specs.Plans.{allowance-gives, allowance-accepted, allowance-length}
+use Rattle.session.specs.Program.{power, digitAt, digits, decimal, spaced, lineOf, sayForward, sayBack, sayAllow, refusal}
+use Rattle.session.specs.Program.{replied, afterwards, ran, inputAnswer, session, printed}
 
 -- ---- numbers and lines
 digit-long : (p n : ℕ) → length (digitAt p n) ≤ 1
@@ -70,31 +72,34 @@ unfolding line
 size-small s h = (accepted-order (accepted-read s h)) .most
 
 module _ (s x y : List ℤ) where
-  forward-short : forwardCall nearest (line s) x y .answer .number ≡ 0 → length (forwardCall nearest (line s) x y .memory) ≤ 16
+  forward-short : forwardCall Nearest (line s) x y .answer .number ≡ 0 → length (forwardCall Nearest (line s) x y .memory) ≤ 16
   forward-short h =
-      let f = (forward-gives nearest (line s) x y (forwardCall nearest (line s) x y .memory)) .0 (forward-accepted nearest (line s) x y h) in
+      let f = (forward-gives Nearest (line s) x y (forwardCall Nearest (line s) x y .memory)) .0
+      (forward-accepted Nearest (line s) x y h) in
       let n = size-small s (f .1 .sheets) in
-      omega (arith, f .0, forward-length nearest (line s .size) (line s .stages) x _ (f .1 .gives))
+      omega (arith, f .0, forward-length Nearest (line s .size) (line s .stages) x _ (f .1 .gives))
 
-  inverse-short : inverseCall nearest (line s) x y .answer .number ≡ 0 → length (inverseCall nearest (line s) x y .memory) ≤ 16
+  inverse-short : inverseCall Nearest (line s) x y .answer .number ≡ 0 → length (inverseCall Nearest (line s) x y .memory) ≤ 16
   inverse-short h =
-      let f = (inverse-gives nearest (line s) x y (inverseCall nearest (line s) x y .memory)) .0 (inverse-accepted nearest (line s) x y h) in
+      let f = (inverse-gives Nearest (line s) x y (inverseCall Nearest (line s) x y .memory)) .0
+      (inverse-accepted Nearest (line s) x y h) in
       let n = size-small s (f .1 .sheets) in
-      omega (arith, f .0, inverse-length nearest (line s .size) (line s .stages) x _ (f .1 .gives))
+      omega (arith, f .0, inverse-length Nearest (line s .size) (line s .stages) x _ (f .1 .gives))
 
-allowance-short : (s y : List ℤ) → allowanceCall nearest (line s) y .answer .number ≡ 0
-    → length (allowanceCall nearest (line s) y .memory) ≤ 16
+allowance-short : (s y : List ℤ) → allowanceCall Nearest (line s) y .answer .number ≡ 0
+    → length (allowanceCall Nearest (line s) y .memory) ≤ 16
 allowance-short s y h =
-    let f = (allowance-gives nearest (line s) y (allowanceCall nearest (line s) y .memory)) .0 (allowance-accepted nearest (line s) y h) in
+    let f = (allowance-gives Nearest (line s) y (allowanceCall Nearest (line s) y .memory)) .0
+    (allowance-accepted Nearest (line s) y h) in
     let n = size-small s (f .sheets) in
-    omega (arith, allowance-length nearest (line s .size) (line s .stages) _ (f .gives))
+    omega (arith, allowance-length Nearest (line s .size) (line s .stages) _ (f .gives))
 
 -- ---- the text
 afterwards-long : (s y z : List ℤ) → length (afterwards s y z) ≤ 720
 unfolding afterwards
 afterwards-long s y z =
-    let b = inverseCall nearest (line s) y z in
-    let a = allowanceCall nearest (line s) (b .memory) in
+    let b = inverseCall Nearest (line s) y z in
+    let a = allowanceCall Nearest (line s) (b .memory) in
     omega (
       arith,
       length-append (replied sayBack b) (replied sayAllow a),
@@ -105,16 +110,21 @@ afterwards-long s y z =
 ran-long : (s x y z : List ℤ) → length (ran s x y z) ≤ 1080
 unfolding ran
 ran-long s x y z =
-    let t = forwardCall nearest (line s) x y in
-    pick (eqb (t .answer .number) 0) (replied-long sayForward t (omega arith) (forward-short s x y)) (afterwards-long s (t .memory) z)
+    let t = forwardCall Nearest (line s) x y in
+    pick (eqb (t .answer .number) 0) (replied-long sayForward t (omega arith) (forward-short s x y))
+    (afterwards-long s (t .memory) z)
   where
-    pick : (e : Bool) → length (replied sayForward (forwardCall nearest (line s) x y)) ≤ 360
-        → length (afterwards s (forwardCall nearest (line s) x y .memory) z) ≤ 720
-        → length (replied sayForward (forwardCall nearest (line s) x y)
-        ++ cond e (afterwards s (forwardCall nearest (line s) x y .memory) z) []) ≤ 1080
+    pick : (e : Bool) → length (replied sayForward (forwardCall Nearest (line s) x y)) ≤ 360
+        → length (afterwards s (forwardCall Nearest (line s) x y .memory) z) ≤ 720
+        → length (replied sayForward (forwardCall Nearest (line s) x y)
+        ++ cond e (afterwards s (forwardCall Nearest (line s) x y .memory) z) []) ≤ 1080
     pick true h k =
-        omega (arith, length-append (replied sayForward (forwardCall nearest (line s) x y)) (afterwards s (forwardCall nearest (line s) x y .memory) z))
-    pick false h k = omega (arith, length-append (replied sayForward (forwardCall nearest (line s) x y)) [])
+        omega (
+          arith,
+          length-append (replied sayForward (forwardCall Nearest (line s) x y))
+              (afterwards s (forwardCall Nearest (line s) x y .memory) z),
+        )
+    pick false h k = omega (arith, length-append (replied sayForward (forwardCall Nearest (line s) x y)) [])
 
 pub printed-short : (b : List ℕ) → length (printed b) ≤ 1080
 unfolding printed

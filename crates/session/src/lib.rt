@@ -28,7 +28,8 @@ fn blank() -> [i32; LIMIT]
 // The inverse of y and the allowance; z is lent as output.
 fn put_afterwards(s: &[i32], y: &[i32], z: &mut [i32], out: &mut [u8], i: usize) -> usize
     requires { ⌜ i ≤ length (now out) ⌝ }
-    ensures { λ r. ⌜ Wrote (now (out .entry)) i (afterwards (now (s .entry)) (now (y .entry)) (now (z .entry))) (now (out .exit)) r ⌝ }
+    ensures { λ r. ⌜ Wrote (now (out .entry)) i (afterwards (now (s .entry)) (now (y .entry)) (now (z .entry)))
+        (now (out .exit)) r ⌝ }
 {
     let back = line::inverse(s, y, z);
     let j = put_reply(out, i, b"back", back, z);
@@ -38,7 +39,8 @@ fn put_afterwards(s: &[i32], y: &[i32], z: &mut [i32], out: &mut [u8], i: usize)
 
 // The forward result, the inverse of that, the allowance; y and z are lent as outputs.
 fn put_runs(s: &[i32], x: &[i32], y: &mut [i32], z: &mut [i32], out: &mut [u8]) -> usize
-    ensures { λ r. ⌜ Wrote (now (out .entry)) 0 (ran (now (s .entry)) (now (x .entry)) (now (y .entry)) (now (z .entry))) (now (out .exit)) r ⌝ }
+    ensures { λ r. ⌜ Wrote (now (out .entry)) 0 (ran (now (s .entry)) (now (x .entry)) (now (y .entry)) (now (z .entry)))
+        (now (out .exit)) r ⌝ }
 {
     let there = line::forward(s, x, y);
     let i = put_reply(out, 0, b"forward", there, y);

@@ -1,4 +1,5 @@
-// Text put into a lent slice from a place on. Each function answers the place after its text; what passes the slice's end is left out.
+// Text put into a lent slice from a place on. Each function answers the place after its text; what passes the slice's end is left
+// out.
 ghost use mathlib.Core.List.{[], _∷_};
 ghost use mathlib.Core.Path.{_≡_};
 ghost use Prim.Native.Nat.{_≤_, _<_, max};
@@ -180,7 +181,8 @@ pub fn put_refusal(out: &mut [u8], i: usize, a: Answer) -> usize
 // The line of a call: the numbers that it gave, or its refusal.
 pub fn put_reply(out: &mut [u8], i: usize, word: &[u8], a: Answer, v: &[i32]) -> usize
     requires { ⌜ i ≤ length (now out) ⌝ }
-    ensures { λ r. ⌜ Wrote (now (out .entry)) i (replied (now (word .entry)) (record { answer = a; memory = now (v .entry) })) (now (out .exit)) r ⌝ }
+    ensures { λ r. ⌜ Wrote (now (out .entry)) i (replied (now (word .entry)) (record { answer = a; memory = now (v .entry) }))
+        (now (out .exit)) r ⌝ }
 {
     if a.number != 0 {
         return put_refusal(out, i, a);

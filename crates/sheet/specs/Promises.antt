@@ -35,8 +35,10 @@ one-rest q r col row = pick (eqb (reading (col .now) .number) 0) (eqb (reading (
   where
     pick :
         (a b : Bool) →
-        cond a (cond b (IsTail q col (length (col .now))) (IsTail q row (reading (row .now) .place))) (IsTail q col (reading (col .now) .place)) →
-        cond a (cond b (IsTail r col (length (col .now))) (IsTail r row (reading (row .now) .place))) (IsTail r col (reading (col .now) .place)) →
+        cond a (cond b (IsTail q col (length (col .now))) (IsTail q row (reading (row .now) .place)))
+        (IsTail q col (reading (col .now) .place)) →
+        cond a (cond b (IsTail r col (length (col .now))) (IsTail r row (reading (row .now) .place)))
+        (IsTail r col (reading (col .now) .place)) →
         Same q r
     pick true true g h = one-tail g h
     pick true false g h = one-tail g h

@@ -6,7 +6,7 @@ ghost use lib.IntN.{pos, negsuc};
 ghost use lib.ListN.{length};
 ghost use Rattle.rules.specs.Numbers.{at};
 ghost use Rattle.rules.specs.Sheets.{between, below, same, among, unless, faultOf};
-use crate::places::size;
+use crate::factors::size;
 use rules::Item;
 use rules::Sheet;
 

@@ -6,7 +6,7 @@ use readers::read_sheet;
 use rules::Answer;
 use rules::Mark;
 
-pub mod places; // numbers that count something, and where factors stand: for callers that hold a checked sheet
+pub mod factors; // numbers that count something, and where factors stand: for callers that hold a checked sheet
 mod faults; // 2 to 8: the fault of one number
 mod readers; // from the left to the first fault: 1 to 9
 mod matches; // two checked sheets, kind for kind: 12

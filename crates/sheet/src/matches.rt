@@ -1,11 +1,12 @@
 // 12: two checked sheets, kind for kind. The factors of both are passed once, side by side.
 ghost use mathlib.Core.Path.{_≡_};
-ghost use Prim.Native.Nat.{_≤_, min};
+ghost use Prim.Native.Nat.{_≤_};
 ghost use Rattle.rules.specs.Numbers.{count};
 ghost use Rattle.rules.specs.Answers.{first, differ, matching};
 ghost use Rattle.laws.specs.Accepted.{Accepted};
-use crate::places::count_at;
-use crate::places::next_factor;
+use crate::factors::count_at;
+use crate::factors::next_factor;
+use crate::factors::smaller;
 use rules::Answer;
 
 // The first of the first m positions whose kinds differ, else m.
@@ -25,12 +26,6 @@ fn first_clash(col: &[i32], row: &[i32], m: usize) -> usize
         j = next_factor(row, p, j);
     }
     m
-}
-
-fn smaller(a: usize, b: usize) -> usize
-    ensures { λ r. ⌜ r ≡ min a b ⌝ }
-{
-    if a <= b { a } else { b }
 }
 
 // The sheets match if the first clash is the count of both; else that is the place of 12.

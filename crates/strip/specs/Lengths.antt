@@ -13,31 +13,36 @@ use Rattle.rules.specs.Answers.{refused, _or-else_}
 use Rattle.rules.specs.Calls.{Reply, Plan, sized}
 use Rattle.rules.specs.Strips.{GivesStrip, inBlocks, outputs, bytesOf, stripAnswer, strip}
 use Rattle.laws.specs.Strips.{strip-ran, strip-found}
-use Rattle.factor.specs.Answers.{lengthOf, turn-on, turn-stop}
+use Rattle.laws.specs.AnswersInTurn.{answer-passes, answer-stops}
+use Rattle.factor.specs.CallAnswers.{lengthOf}
 
 -- 10 by the lengths
-unfoldable pub lengthsOf : ℕ → ℕ → ℕ → ℕ → Answer
-lengthsOf n x y b = cond (eqb (x % n) 0) (cond (eqb y x) (lengthOf (x / n) b) (refused 10 1 0)) (refused 10 0 0)
+unfoldable pub stripLengths : ℕ → ℕ → ℕ → ℕ → Answer
+stripLengths n x y b = cond (eqb (x % n) 0) (cond (eqb y x) (lengthOf (x / n) b) (refused 10 1 0)) (refused 10 0 0)
 
-lengths : (n : ℕ) (x y : List ℤ) (b : List ℕ) → inBlocks n x or-else sized 1 (length x) y or-else sized 1 (length x / n) b ≡ lengthsOf n (length x) (length y) (length b)
-unfolding lengthsOf lengthOf _or-else_
+lengths : (n : ℕ) (x y : List ℤ) (b : List ℕ) →
+    inBlocks n x or-else sized 1 (length x) y or-else sized 1 (length x / n) b ≡ stripLengths n (length x) (length y) (length b)
+unfolding stripLengths lengthOf _or-else_
 lengths n x y b = split (ℕ-discrete (length x % n) 0) (ℕ-discrete (length y) (length x))
   where
-    split : Dec (length x % n ≡ 0) → Dec (length y ≡ length x) → inBlocks n x or-else sized 1 (length x) y or-else sized 1 (length x / n) b ≡ lengthsOf n (length x) (length y) (length b)
+    split : Dec (length x % n ≡ 0) → Dec (length y ≡ length x) →
+        inBlocks n x or-else sized 1 (length x) y or-else sized 1 (length x / n) b ≡ stripLengths n (length x) (length y)
+        (length b)
     split (yes e) (yes d) = rw (eq-eqb _ 0 e, eq-eqb _ (length x) d)
     split (yes e) (no d) = rw (eq-eqb _ 0 e, ne-eqb _ (length x) d)
     split (no e) d = rw (ne-eqb _ 0 e)
 
 module _ (p : Plan) (x y : List ℤ) (b : List ℕ) where
-  turns : stripAnswer p x y b ≡ p .sheets or-else lengthsOf (p .size) (length x) (length y) (length b)
+  turns : stripAnswer p x y b ≡ p .sheets or-else stripLengths (p .size) (length x) (length y) (length b)
   unfolding stripAnswer
   turns = ap (λ (a : Answer). p .sheets or-else a) (lengths (p .size) x y b)
 
   pub sheets-first : {a : Answer} → a ≡ p .sheets → (a .number ≡ 0 → ⊥) → a ≡ stripAnswer p x y b
-  sheets-first e h = e ∙ sym (turns ∙ turn-stop (p .sheets) _ (λ z. h (ap (λ (q : Answer). q .number) e ∙ z)))
+  sheets-first e h = e ∙ sym (turns ∙ answer-stops (p .sheets) _ (λ z. h (ap (λ (q : Answer). q .number) e ∙ z)))
 
-  pub lengths-then : {a : Answer} → p .sheets .number ≡ 0 → a ≡ lengthsOf (p .size) (length x) (length y) (length b) → a ≡ stripAnswer p x y b
-  lengths-then h e = e ∙ sym (turns ∙ turn-on (p .sheets) _ h)
+  pub lengths-then : {a : Answer} → p .sheets .number ≡ 0 → a ≡ stripLengths (p .size) (length x) (length y) (length b) →
+      a ≡ stripAnswer p x y b
+  lengths-then h e = e ∙ sym (turns ∙ answer-passes (p .sheets) _ h)
 
   module _ (call : List ℤ → List ℤ → Reply ℤ) {a : Answer} (e : a ≡ stripAnswer p x y b) where
     -- a refusal leaves both lent slices as found

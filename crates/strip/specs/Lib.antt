@@ -1,4 +1,4 @@
 pub mod Plans
 pub mod Lengths
-pub mod Turns
+pub mod BlockLoop
 pub mod Promises

@@ -2,21 +2,21 @@
 ghost use mathlib.Core.Path.{_≡_};
 ghost use Prim.Native.Nat.{_*_, _<_};
 ghost use lib.ListN.{length};
-ghost use Rattle.rules.specs.Strips.{GivesStrip, strip, outputs, bytesOf};
-ghost use Rattle.strip.specs.Plans.{planOf, callOf};
-ghost use Rattle.strip.specs.Lengths.{lengthsOf};
-use crate::blocks::Direction;
+ghost use Rattle.rules.specs.Strips.{GivesStrip};
+ghost use Rattle.strip.specs.Plans.{planOf, outputsBy, bytesBy, stripBy, TakesBlocks};
+ghost use Rattle.strip.specs.Lengths.{stripLengths};
 use crate::blocks::Shape;
 use crate::blocks::check_sheets;
 use crate::blocks::run_block;
 use crate::blocks::size_of;
-use factor::answers::check_length;
+use factor::lengths::check_length;
+use factor::run::Run;
 use rules::Answer;
 
 // 10: the input is no whole number of blocks of n; then the output, then the bytes.
 fn check_strip(n: usize, x: usize, y: usize, bytes: usize) -> Answer
     requires { ⌜ 0 < n ⌝ }
-    ensures { λ r. ⌜ r ≡ lengthsOf n x y bytes ⌝ }
+    ensures { λ r. ⌜ r ≡ stripLengths n x y bytes ⌝ }
 {
     if x % n != 0 {
         return Answer::refused(10, 0, 0);
@@ -30,7 +30,7 @@ fn check_strip(n: usize, x: usize, y: usize, bytes: usize) -> Answer
 // Every block of n numbers: its part of y is lent on to the single run, and its byte takes the number.
 fn run_blocks(
     shape: Shape,
-    direction: Direction,
+    run: Run,
     col: &[i32],
     row: &[i32],
     n: usize,
@@ -38,13 +38,20 @@ fn run_blocks(
     y: &mut [i32],
     bytes: &mut [u8],
 )
-    requires { ⌜ (planOf shape (now col) (now row) .sheets .number ≡ 0) × (n ≡ planOf shape (now col) (now row) .size) × (length (now x) ≡ length (now bytes) * n) × (length (now y) ≡ length (now bytes) * n) ⌝ }
-    ensures { λ _. ⌜ (now (y .exit) ≡ outputs (planOf shape (now (col .entry)) (now (row .entry))) (callOf direction (planOf shape (now (col .entry)) (now (row .entry)))) (length (now (bytes .entry))) (now (x .entry)) (now (y .entry))) × (now (bytes .exit) ≡ bytesOf (planOf shape (now (col .entry)) (now (row .entry))) (callOf direction (planOf shape (now (col .entry)) (now (row .entry)))) (length (now (bytes .entry))) (now (x .entry)) (now (y .entry))) ⌝ }
+    requires { ⌜ TakesBlocks (run .task)
+        × (planOf shape (now col) (now row) .sheets .number ≡ 0)
+        × (n ≡ planOf shape (now col) (now row) .size)
+        × (length (now x) ≡ length (now bytes) * n)
+        × (length (now y) ≡ length (now bytes) * n) ⌝ }
+    ensures { λ _. ⌜ (now (y .exit) ≡ outputsBy shape run (now (col .entry)) (now (row .entry)) (length (now (bytes .entry)))
+        (now (x .entry)) (now (y .entry)))
+        × (now (bytes .exit) ≡ bytesBy shape run (now (col .entry)) (now (row .entry)) (length (now (bytes .entry)))
+        (now (x .entry)) (now (y .entry))) ⌝ }
 {
     for k in 0..bytes.len() {
         let o = k * n;
         let e = o + n;
-        let a = run_block(shape, direction, col, row, &x[o..e], &mut y[o..e]);
+        let a = run_block(shape, run, col, row, &x[o..e], &mut y[o..e]);
         bytes[k] = a.number as u8;
     }
 }
@@ -52,14 +59,16 @@ fn run_blocks(
 // "1 to 9 and 12 as before, then 10"; else all blocks.
 pub fn run_strip(
     shape: Shape,
-    direction: Direction,
+    run: Run,
     col: &[i32],
     row: &[i32],
     x: &[i32],
     y: &mut [i32],
     bytes: &mut [u8],
 ) -> Answer
-    ensures { λ a. ⌜ GivesStrip a (now (y .exit)) (now (bytes .exit)) (strip (planOf shape (now (col .entry)) (now (row .entry))) (callOf direction (planOf shape (now (col .entry)) (now (row .entry)))) (now (x .entry)) (now (y .entry)) (now (bytes .entry))) ⌝ }
+    requires { ⌜ TakesBlocks (run .task) ⌝ }
+    ensures { λ a. ⌜ GivesStrip a (now (y .exit)) (now (bytes .exit))
+        (stripBy shape run (now (col .entry)) (now (row .entry)) (now (x .entry)) (now (y .entry)) (now (bytes .entry))) ⌝ }
 {
     let a = check_sheets(shape, col, row);
     if a.number != 0 {
@@ -70,6 +79,6 @@ pub fn run_strip(
     if l.number != 0 {
         return l;
     }
-    run_blocks(shape, direction, col, row, n, x, y, bytes);
+    run_blocks(shape, run, col, row, n, x, y, bytes);
     l
 }

@@ -165,7 +165,8 @@ fn is_end(part: &[i32], w: &[i32], start: i32) -> bool {
     part.len() == w.len() - from && is_front(&load(part), &w[from..])
 }
 
-// `rest`, whose answer is a part of a slice: which slice, 0 for the column sheet or 1 for the row sheet, and where the part starts.
+// `rest`, whose answer is a part of a slice: which slice, 0 for the column sheet or 1 for the row sheet, and where the part
+// starts.
 pub fn is_rest<'a>(a: &'a [i32], b: &'a [i32], which: i32, start: i32) -> bool {
     let part = sheet::rest(a, b);
     if which == 0 {

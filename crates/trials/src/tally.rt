@@ -1,4 +1,5 @@
-// How many cases of each call agreed. Three counts for each call: the cases that agree, those that differ, the first that differs.
+// How many cases of each call agreed. Three counts for each call: the cases that agree, those that differ, the first that
+// differs.
 ghost use Prim.Native.Nat.{_≤_};
 
 const CALLS: usize = 20;

@@ -1,5 +1,5 @@
--- The rules that close a goal on whole numbers in a line: `simp lia (omega arith)`. `simp` reads a whole number as a difference of
--- naturals and so turns the goal into one on naturals, which `omega` proves. Assumes nothing.
+-- The rules that close a goal on whole numbers in a line: `simp lia (omega arith)`. `simp` reads a whole number as a difference
+-- of naturals and so turns the goal into one on naturals, which `omega` proves. Assumes nothing.
 use mathlib.Core.Path.{_≡_, refl, _∙_, ap}
 use mathlib.Core.Logic.{_↔_}
 use mathlib.Core.Bool.{Bool, true, false, not, cond}
@@ -11,33 +11,33 @@ use lib.Signed.{_≤ℤ_, _<ℤ_, leZ, ltZ, mag, ltZ-no, clashℤ}
 use mir.Syntax.{Width}
 use mir.Val.{SFits, hbits}
 
--- the two parts of a number, one of them 0: it is up - dn
-abbrev pub up : ℤ → ℕ
-up (pos n) = n
-up (negsuc n) = 0
+-- the two parts of a number, one of them 0: it is plus - minus
+abbrev pub plus : ℤ → ℕ
+plus (pos n) = n
+plus (negsuc n) = 0
 
-abbrev pub dn : ℤ → ℕ
-dn (pos n) = 0
-dn (negsuc n) = suc n
+abbrev pub minus : ℤ → ℕ
+minus (pos n) = 0
+minus (negsuc n) = suc n
 
 -- |z| ≤ B. A record, so that B and z are inferred, and so that `zarith` finds it among what is in reach
 pub record Within (B : ℕ) (z : ℤ) : Type 0 where
   pub within : natAbs z ≤ B
 
 -- ---- orders, equations and operations by the parts
-le-parts : (a b : ℤ) → (a ≤ℤ b) ↔ (up a + dn b ≤ up b + dn a)
+le-parts : (a b : ℤ) → (a ≤ℤ b) ↔ (plus a + minus b ≤ plus b + minus a)
 le-parts (pos m) (pos n) = (λ h. omega (arith, leb→le m n (h .le)), λ h. record { le = le→leb m n (omega arith) })
 le-parts (pos m) (negsuc n) = (λ h. absurd (h .le), λ h. absurd (omega arith))
 le-parts (negsuc m) (pos n) = (λ h. omega arith, λ h. record { le = tt })
 le-parts (negsuc m) (negsuc n) = (λ h. omega (arith, leb→le n m (h .le)), λ h. record { le = le→leb n m (omega arith) })
 
-lt-parts : (a b : ℤ) → (a <ℤ b) ↔ (up a + dn b < up b + dn a)
+lt-parts : (a b : ℤ) → (a <ℤ b) ↔ (plus a + minus b < plus b + minus a)
 lt-parts (pos m) (pos n) = (λ h. omega (arith, ltb→lt m n (h .lt)), λ h. record { lt = lt→ltb m n (omega arith) })
 lt-parts (pos m) (negsuc n) = (λ h. absurd (h .lt), λ h. absurd (omega arith))
 lt-parts (negsuc m) (pos n) = (λ h. omega arith, λ h. record { lt = tt })
 lt-parts (negsuc m) (negsuc n) = (λ h. omega (arith, ltb→lt n m (h .lt)), λ h. record { lt = lt→ltb n m (omega arith) })
 
-eq-parts : (a b : ℤ) → up a + dn b ≡ up b + dn a → a ≡ b
+eq-parts : (a b : ℤ) → plus a + minus b ≡ plus b + minus a → a ≡ b
 eq-parts (pos m) (pos n) h = ap pos (omega arith)
 eq-parts (pos m) (negsuc n) h = absurd (omega arith)
 eq-parts (negsuc m) (pos n) h = absurd (omega arith)
@@ -48,41 +48,42 @@ infix 60 _⊖_
 pub _⊖_ : ℕ → ℕ → ℤ
 p ⊖ q = subℕ p q
 
-parts : (p q : ℕ) → up (p ⊖ q) + q ≡ p + dn (p ⊖ q)
+parts : (p q : ℕ) → plus (p ⊖ q) + q ≡ p + minus (p ⊖ q)
 unfolding _⊖_
 parts p q = go (ltb p q) (ltb→lt p q) (nltb→le p q)
   where
     go : (b : Bool) → (T b → p < q) → (T (not b) → q ≤ p) →
-        up (cond b (negsuc (q - suc p)) (pos (p - q))) + q ≡ p + dn (cond b (negsuc (q - suc p)) (pos (p - q)))
+        plus (cond b (negsuc (q - suc p)) (pos (p - q))) + q ≡ p + minus (cond b (negsuc (q - suc p)) (pos (p - q)))
     go true f g = omega (arith, f tt)
     go false f g = omega (arith, g tt)
 
-is : (z : ℤ) (p q : ℕ) → up z + q ≡ p + dn z → z ≡ p ⊖ q
+is : (z : ℤ) (p q : ℕ) → plus z + q ≡ p + minus z → z ≡ p ⊖ q
 is z p q h = eq-parts z (p ⊖ q) (omega (arith, parts p q))
 
-neg-parts : (z : ℤ) → up (negℤ z) + up z ≡ dn z + dn (negℤ z)
+neg-parts : (z : ℤ) → plus (negℤ z) + plus z ≡ minus z + minus (negℤ z)
 neg-parts (pos zero) = refl
 neg-parts (pos (suc n)) = omega arith
 neg-parts (negsuc n) = omega arith
 
-add-parts : (a b : ℤ) → up (a +ℤ b) + (dn a + dn b) ≡ (up a + up b) + dn (a +ℤ b)
+add-parts : (a b : ℤ) → plus (a +ℤ b) + (minus a + minus b) ≡ (plus a + plus b) + minus (a +ℤ b)
 unfolding _⊖_
 add-parts (pos m) (pos n) = omega arith
 add-parts (pos m) (negsuc n) = omega (arith, parts m (suc n))
 add-parts (negsuc m) (pos n) = omega (arith, parts n (suc m))
 add-parts (negsuc m) (negsuc n) = omega arith
 
-mul-parts : (a b : ℤ) → up (a *ℤ b) + (up a * dn b + dn a * up b) ≡ (up a * up b + dn a * dn b) + dn (a *ℤ b)
+mul-parts : (a b : ℤ) → plus (a *ℤ b) + (plus a * minus b + minus a * plus b) ≡ (plus a * plus b + minus a * minus b) + minus
+    (a *ℤ b)
 mul-parts (pos m) (pos n) = omega arith
 mul-parts (pos m) (negsuc n) = omega (arith, neg-parts (pos (m * suc n)))
 mul-parts (negsuc m) (pos n) = omega (arith, neg-parts (pos (suc m * n)))
 mul-parts (negsuc m) (negsuc n) = omega arith
 
-abs-parts : (z : ℤ) (p q : ℕ) → up z + q ≡ p + dn z → natAbs z ≡ (p - q) + (q - p)
+abs-parts : (z : ℤ) (p q : ℕ) → plus z + q ≡ p + minus z → natAbs z ≡ (p - q) + (q - p)
 abs-parts (pos n) p q h = omega arith
 abs-parts (negsuc n) p q h = omega arith
 
-mag-parts : (z : ℤ) (p q : ℕ) → up z + q ≡ p + dn z → mag z ≡ (p - q) + (q - suc p)
+mag-parts : (z : ℤ) (p q : ℕ) → plus z + q ≡ p + minus z → mag z ≡ (p - q) + (q - suc p)
 mag-parts (pos n) p q h = omega arith
 mag-parts (negsuc n) p q h = omega arith
 
@@ -139,9 +140,9 @@ pub m-neg : (a : ℤ) → ⟪ negℤ a ⟫ ≡ negℤ ⟪ a ⟫
 unfolding ⟪_⟫
 m-neg a = refl
 
-pub m-atom : (z : ℤ) → ⟪ z ⟫ ≡ up z ⊖ dn z
+pub m-atom : (z : ℤ) → ⟪ z ⟫ ≡ plus z ⊖ minus z
 unfolding ⟪_⟫
-m-atom z = is z (up z) (dn z) refl
+m-atom z = is z (plus z) (minus z) refl
 
 pub m-pos : (n : ℕ) → ⟪ pos n ⟫ ≡ n ⊖ 0
 m-pos n = m-atom (pos n)
@@ -151,15 +152,23 @@ m-negsuc n = m-atom (negsuc n)
 
 pub d-le : (p q r s : ℕ) → ((p ⊖ q) ≤ᵈ (r ⊖ s)) ↔ (p + s ≤ r + q)
 unfolding _≤ᵈ_
-d-le p q r s = (λ h. omega (arith, parts p q, parts r s, le-parts (p ⊖ q) (r ⊖ s) .0 h), λ h. le-parts (p ⊖ q) (r ⊖ s) .1 (omega (arith, parts p q, parts r s)))
+d-le p q r s = (
+  λ h. omega (arith, parts p q, parts r s, le-parts (p ⊖ q) (r ⊖ s) .0 h),
+  λ h. le-parts (p ⊖ q) (r ⊖ s) .1
+      (omega (arith, parts p q, parts r s)),
+)
 
 pub d-lt : (p q r s : ℕ) → ((p ⊖ q) <ᵈ (r ⊖ s)) ↔ (p + s < r + q)
 unfolding _<ᵈ_
-d-lt p q r s = (λ h. omega (arith, parts p q, parts r s, lt-parts (p ⊖ q) (r ⊖ s) .0 h), λ h. lt-parts (p ⊖ q) (r ⊖ s) .1 (omega (arith, parts p q, parts r s)))
+d-lt p q r s = (
+  λ h. omega (arith, parts p q, parts r s, lt-parts (p ⊖ q) (r ⊖ s) .0 h),
+  λ h. lt-parts (p ⊖ q) (r ⊖ s) .1
+      (omega (arith, parts p q, parts r s)),
+)
 
 pub d-eq : (p q r s : ℕ) → ((p ⊖ q) ≡ᵈ (r ⊖ s)) ↔ (p + s ≡ r + q)
 unfolding _≡ᵈ_
-d-eq p q r s = (λ h. omega (arith, parts p q, parts r s, ap up h, ap dn h), λ h. is (p ⊖ q) r s (omega (arith, parts p q)))
+d-eq p q r s = (λ h. omega (arith, parts p q, parts r s, ap plus h, ap minus h), λ h. is (p ⊖ q) r s (omega (arith, parts p q)))
 
 pub d-abs : (p q : ℕ) → absᵈ (p ⊖ q) ≡ (p - q) + (q - p)
 unfolding absᵈ
@@ -178,8 +187,10 @@ d-neg p q = is _ _ _ (omega (arith, neg-parts (p ⊖ q), parts p q))
 pub d-mul : (p q r s : ℕ) → (p ⊖ q) *ℤ (r ⊖ s) ≡ (p * r + q * s) ⊖ (p * s + q * r)
 d-mul p q r s = is _ _ _ (go (p ⊖ q) (r ⊖ s) (parts p q) (parts r s))
   where
-    go : (a b : ℤ) → up a + q ≡ p + dn a → up b + s ≡ r + dn b → up (a *ℤ b) + (p * s + q * r) ≡ (p * r + q * s) + dn (a *ℤ b)
-    go a b e f = omega (arith, mul-parts a b, ap (λ x. x * up b) e, ap (λ x. x * dn b) e, ap (λ x. p * x) f, ap (λ x. q * x) f)
+    go : (a b : ℤ) → plus a + q ≡ p + minus a → plus b + s ≡ r + minus b →
+        plus (a *ℤ b) + (p * s + q * r) ≡ (p * r + q * s) + minus (a *ℤ b)
+    go a b e f =
+        omega (arith, mul-parts a b, ap (λ x. x * plus b) e, ap (λ x. x * minus b) e, ap (λ x. p * x) f, ap (λ x. q * x) f)
 
 -- ranges and bounds
 pub m-fits : (w : Width) (z : ℤ) → SFits w z ↔ (mag z < 2 ^ hbits w)
@@ -209,8 +220,8 @@ t-le a b = (λ e. record { le = rw e tt }, λ h. is-true (leZ a b) (h .le))
 pub t-nle : (a b : ℤ) → (leZ a b ≡ false) ↔ (b <ℤ a)
 t-nle a b = (λ e. lt-parts b a .1 (no e), λ h. is-false (leZ a b) (λ t. clashℤ h (record { le = t })))
   where
-    no : leZ a b ≡ false → up b + dn a < up a + dn b
-    no e = let n : ¬ (up a + dn b ≤ up b + dn a) = λ k. rw e at (le-parts a b .1 k .le) in omega arith
+    no : leZ a b ≡ false → plus b + minus a < plus a + minus b
+    no e = let n : ¬ (plus a + minus b ≤ plus b + minus a) = λ k. rw e at (le-parts a b .1 k .le) in omega arith
 
 -- ---- the rule sets. `simp` takes the first rule that fits: a new operation's rule goes before `m-atom`
 pub ruleset orders = (m-le, m-lt, m-eq, d-le, d-lt, d-eq, t-lt, t-nlt, t-le, t-nle)
@@ -246,41 +257,41 @@ pub ruleset lin = (lit-out, lit-outN, m-scale, m-scale', m-scaleN, m-scaleN', li
 
 -- the same as `lia`, but the magnitude of a number that is no sum has no case split: for triangle inequalities.
 -- (It forgets that one of the parts is 0, so `natAbs x ≤ B` from two orders is `lia`'s.)
-pub d-abs-atom : (z : ℤ) → absᵈ (up z ⊖ dn z) ≡ up z + dn z
+pub d-abs-atom : (z : ℤ) → absᵈ (plus z ⊖ minus z) ≡ plus z + minus z
 d-abs-atom (pos n) = d-abs n 0 ∙ omega arith
 d-abs-atom (negsuc n) = d-abs 0 (suc n) ∙ omega arith
 
 pub ruleset lia-abs = (d-abs-atom, lia)
 
 -- ---- rules by which omega reads a hypothesis in reach, its sides variables or literals
-pub le-read : {a b : ℤ} → a ≤ℤ b → up a + dn b ≤ up b + dn a
+pub le-read : {a b : ℤ} → a ≤ℤ b → plus a + minus b ≤ plus b + minus a
 le-read {a} {b} = le-parts a b .0
 
-pub lt-read : {a b : ℤ} → a <ℤ b → up a + dn b < up b + dn a
+pub lt-read : {a b : ℤ} → a <ℤ b → plus a + minus b < plus b + minus a
 lt-read {a} {b} = lt-parts a b .0
 
-pub eq-read : {a b : ℤ} → a ≡ b → up a + dn b ≡ up b + dn a
-eq-read h = omega (arith, ap up h, ap dn h)
+pub eq-read : {a b : ℤ} → a ≡ b → plus a + minus b ≡ plus b + minus a
+eq-read h = omega (arith, ap plus h, ap minus h)
 
 -- (one off at the top: where z < 2 ^ 63 itself is wanted, hand over `simp lia at h`)
-pub fits-read : {w : Width} {z : ℤ} → SFits w z → up z + dn z ≤ 2 ^ hbits w
+pub fits-read : {w : Width} {z : ℤ} → SFits w z → plus z + minus z ≤ 2 ^ hbits w
 fits-read {w} {z = pos n} h = omega (arith, h .sfits)
 fits-read {w} {z = negsuc n} h = omega (arith, h .sfits)
 
-pub within-read : {B : ℕ} {z : ℤ} → Within B z → up z + dn z ≤ B
+pub within-read : {B : ℕ} {z : ℤ} → Within B z → plus z + minus z ≤ B
 within-read {B} {z = pos n} h = omega (arith, h .within)
 within-read {B} {z = negsuc n} h = omega (arith, h .within)
 
-pub lt-yes-read : (a b : ℤ) → ltZ a b ≡ true → up a + dn b < up b + dn a
+pub lt-yes-read : (a b : ℤ) → ltZ a b ≡ true → plus a + minus b < plus b + minus a
 lt-yes-read a b h = lt-read (t-lt a b .0 h)
 
-pub lt-no-read : (a b : ℤ) → ltZ a b ≡ false → up b + dn a ≤ up a + dn b
+pub lt-no-read : (a b : ℤ) → ltZ a b ≡ false → plus b + minus a ≤ plus a + minus b
 lt-no-read a b h = le-read (t-nlt a b .0 h)
 
-pub le-yes-read : (a b : ℤ) → leZ a b ≡ true → up a + dn b ≤ up b + dn a
+pub le-yes-read : (a b : ℤ) → leZ a b ≡ true → plus a + minus b ≤ plus b + minus a
 le-yes-read a b h = le-read (t-le a b .0 h)
 
-pub le-no-read : (a b : ℤ) → leZ a b ≡ false → up b + dn a < up a + dn b
+pub le-no-read : (a b : ℤ) → leZ a b ≡ false → plus b + minus a < plus a + minus b
 le-no-read a b h = lt-read (t-nle a b .0 h)
 
 pub ruleset zarith = (arith, le-read, lt-read, eq-read, fits-read, within-read, lt-yes-read, lt-no-read, le-yes-read, le-no-read)

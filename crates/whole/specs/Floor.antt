@@ -25,7 +25,8 @@ small-multiple m (negsuc n) = simp lia (omega arith)
 pub shr-unique : (s : ℤ) (m : ℕ) (q : ℤ) → (pos m *ℤ q) ≤ℤ s → s <ℤ (pos m *ℤ q +ℤ pos m) → shrZ s m ≡ q
 shr-unique s m q lo hi =
     let h : 0 < m = given₂ lo hi (simp lia (omega arith)) in
-    let e = small-multiple m (shrZ s m -ℤ q) (given₂ (shr-lo s m h) hi (simp lia (omega arith))) (given₂ lo (shr-hi s m h) (simp lia (omega arith))) in
+    let e = small-multiple m (shrZ s m -ℤ q) (given₂ (shr-lo s m h) hi (simp lia (omega arith)))
+    (given₂ lo (shr-hi s m h) (simp lia (omega arith))) in
     given₁ e (simp lia (omega arith))
 
 -- ---- the nearest: off by half of S at most, and exact at a multiple

@@ -1,4 +1,5 @@
--- Laws of the whole numbers: products, the order, magnitudes, signs; and `distrib`, which multiplies products out. Assumes nothing.
+-- Laws of the whole numbers: products, the order, magnitudes, signs; and `distrib`, which multiplies products out. Assumes
+-- nothing.
 use mathlib.Core.Path.{_≡_, refl}
 use mathlib.Core.Logic.{_⊎_, inl, inr}
 use Prim.Native.Nat.{suc, _+_, _*_, _≤_}

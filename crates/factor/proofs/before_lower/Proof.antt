@@ -2,7 +2,7 @@
 use native.Mathlib.Nat as NatL
 use native.Mathlib.Omega.{arith}
 use Rattle.laws.specs.Tests.{triangle-twice}
-use Rattle.factor.specs.Reach.{half-triangle}
+use Rattle.factor.specs.SumBounds.{half-triangle}
 use Rattle.factor.proofs.before_lower.Statement.{statement}
 use Rattle.factor.proofs.before_lower.Tie as tie
 

@@ -3,7 +3,7 @@ use Prim.Native.Nat.{_-_, _≤_}
 use native.Mathlib.Nat as NatL
 use native.Mathlib.Nat.{le-of-lt}
 use native.Mathlib.Omega.{arith}
-use Rattle.factor.specs.Reach.{above-triangle}
+use Rattle.factor.specs.SumBounds.{above-triangle}
 use borrow.Author.Needs.{needs}
 use Rattle.factor.proofs.before_upper.Statement.{statement}
 use Rattle.factor.proofs.before_upper.Tie as tie
@@ -24,5 +24,4 @@ returns : tie.Need-returns
 returns c = omega (arith, c .before-lower .ensures, above-triangle (c .before .args .n) (c .before .args .m) (omega arith))
 
 pub before-upper-spec : {M : Type 1} → statement M
-before-upper-spec =
-    tie.close (tie.spec sub-result mul-result before-lower-requires sub-result-2 returns)
+before-upper-spec = tie.close (tie.spec sub-result mul-result before-lower-requires sub-result-2 returns)

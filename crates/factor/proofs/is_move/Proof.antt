@@ -1,5 +1,5 @@
 -- Each arm is a line of `isMove`.
-use Rattle.factor.specs.Spots.{isMove}
+use Rattle.factor.specs.Layouts.{isMove}
 use borrow.Author.Needs.{needs}
 use Rattle.factor.proofs.is_move.Statement.{statement}
 use Rattle.factor.proofs.is_move.Tie as tie
@@ -33,6 +33,4 @@ unfolding isMove
 returns-4 c = rw (c .enum-told4 .given .1)
 
 pub is-move-spec : {M : Type 1} → statement M
-is-move-spec =
-    tie.close
-    (tie.spec enum-told returns enum-told-2 returns-2 enum-told-3 returns-3 enum-told-4 returns-4)
+is-move-spec = tie.close (tie.spec enum-told returns enum-told-2 returns-2 enum-told-3 returns-3 enum-told-4 returns-4)

@@ -3,7 +3,7 @@ use mathlib.Core.Path.{_≡_}
 use Prim.Native.Nat.{suc, _-_}
 use native.Mathlib.Omega.{arith}
 use borrow.Author.Tests.{eq-eqb, ne-eqb}
-use Rattle.factor.specs.Spots.{rowBy}
+use Rattle.factor.specs.Layouts.{rowBy}
 use borrow.Author.Needs.{needs}
 use Rattle.factor.proofs.row_of.Statement.{statement}
 use Rattle.factor.proofs.row_of.Tie as tie
@@ -81,21 +81,5 @@ returns-5 c = rw (c .enum-told4 .given .1)
 pub row-of-spec : {M : Type 1} → statement M
 row-of-spec =
     tie.close
-    (tie.spec
-    enum-told
-    before-lower-requires
-    add-t6
-    returns
-    enum-told-2
-    before-upper-requires
-    add-t8
-    sub-t9
-    sub-t10
-    returns-2
-    enum-told-3
-    sub-t12
-    sub-t13
-    returns-3
-    returns-4
-    enum-told-4
-    returns-5)
+    (tie.spec enum-told before-lower-requires add-t6 returns enum-told-2 before-upper-requires add-t8 sub-t9 sub-t10 returns-2
+    enum-told-3 sub-t12 sub-t13 returns-3 returns-4 enum-told-4 returns-5)

@@ -1,46 +1,33 @@
--- The checks in turn (`allow-stops`, `allow-goes`), then the run of the allowances.
-use mathlib.Core.Path.{_≡_}
-use lib.ListN.{length}
-use Rattle.rules.specs.Stages.{nearest}
-use Rattle.rules.specs.Answers.{_or-else_}
-use Rattle.rules.specs.Calls.{joint}
-use Rattle.factor.specs.Answers.{lengthOf, allow-stops, allow-goes, allow-fine}
-use Rattle.rectangle.specs.Runs.{matched}
+-- The call of that task is the document's; it lends nothing.
 use borrow.Author.Needs.{needs}
+use mathlib.Core.Path.{refl}
+use Rattle.factor.specs.Tasks.{callBy}
+use Rattle.factor.specs.CallAnswers.{NoneLent}
 use Rattle.rectangle.proofs.allowance.Statement.{statement}
 use Rattle.rectangle.proofs.allowance.Tie as tie
 
--- what the checks told: the sheets, the length
-checks : (c : tie.After-check-output) → c .check-output .result ≡ joint (c .before .args .col .now) (c .before .args .row .now) .sheets or-else lengthOf (joint (c .before .args .col .now) (c .before .args .row .now) .size) (length (c .before .args .y .now))
-unfolding joint
-checks c = c .check-output .ensures
+sub-call : tie.Need-sub-call
+sub-call c = search needs
 
-check-output-requires : tie.Need-check-output-requires
-check-output-requires c κs = search needs
+part-call-start : tie.Need-part-call-start
+part-call-start c = search needs
 
-returns : tie.Need-returns
-returns c =
-    let s = c .before .before .before in
-    allow-stops nearest (joint (s .args .col .now) (s .args .row .now)) (s .args .y .now) (checks (c .before .before)) (c .if1 .taken)
+part-call-end : tie.Need-part-call-end
+part-call-end c = search needs
 
-allowance-block-requires : tie.Need-allowance-block-requires
-unfolding joint
-allowance-block-requires c κs =
-    let e = c .before in
-    let s = e .before .before .before in
-    let h = allow-fine nearest (joint (s .args .col .now) (s .args .row .now)) (s .args .y .now) (checks (e .before .before)) (e .if1 .left) in
-    (matched _ _ (h .0), h .1)
+nearest-requires : tie.Need-nearest-requires
+nearest-requires c κs = search needs
+
+call-requires : tie.Need-call-requires
+unfolding NoneLent
+call-requires c κs = rw (c .before .before .nearest .ensures) refl
 
 same-length : tie.Need-same-length
 same-length c = search needs
 
-returns-2 : tie.Need-returns-2
-unfolding joint
-returns-2 c =
-    let e = c .before .before .before in
-    let s = e .before .before .before in
-    rw (allow-goes nearest (joint (s .args .col .now) (s .args .row .now)) (s .args .y .now) (checks (e .before .before)) (e .if1 .left)) (c .before .allowance-block .ensures)
+returns : tie.Need-returns
+unfolding callBy
+returns c = let r = c .before in rw (r .before .before .before .nearest .ensures) at (r .call .ensures)
 
 pub allowance-spec : {M : Type 1} → statement M
-allowance-spec =
-    tie.close (tie.spec check-output-requires returns allowance-block-requires same-length returns-2)
+allowance-spec = tie.close (tie.spec nearest-requires sub-call part-call-start part-call-end call-requires same-length returns)

@@ -1,46 +1,23 @@
--- The checks in turn (`run-stops`, `run-goes`), then the run of the block.
-use mathlib.Core.Path.{_≡_}
-use lib.ListN.{length}
-use Rattle.rules.specs.Answers.{_or-else_}
-use Rattle.rules.specs.Calls.{joint, forwardCall}
-use Rattle.factor.specs.Answers.{lengthsOf, run-stops, run-goes, run-fine}
-use Rattle.rectangle.specs.Runs.{matched}
+-- The call of that task is the document's.
 use borrow.Author.Needs.{needs}
+use Rattle.factor.specs.Tasks.{callBy}
+use Rattle.factor.specs.CallAnswers.{NoneLent}
 use Rattle.rectangle.proofs.forward.Statement.{statement}
 use Rattle.rectangle.proofs.forward.Tie as tie
 
--- what the checks told: the sheets, the lengths
-checks : (c : tie.After-check-run) → c .check-run .result ≡ joint (c .before .args .col .now) (c .before .args .row .now) .sheets or-else lengthsOf (joint (c .before .args .col .now) (c .before .args .row .now) .size) (length (c .before .args .x .now)) (length (c .before .args .y .now))
-unfolding joint
-checks c = c .check-run .ensures
+nearest-requires : tie.Need-nearest-requires
+nearest-requires c κs = search needs
 
-check-run-requires : tie.Need-check-run-requires
-check-run-requires c κs = search needs
-
-returns : tie.Need-returns
-unfolding forwardCall
-returns c =
-    let s = c .before .before .before in
-    run-stops (joint (s .args .col .now) (s .args .row .now)) (s .args .x .now) (s .args .y .now) (checks (c .before .before)) _ (c .if1 .taken)
-
-forward-block-requires : tie.Need-forward-block-requires
-unfolding joint
-forward-block-requires c κs =
-    let e = c .before in
-    let s = e .before .before .before in
-    let h = run-fine (joint (s .args .col .now) (s .args .row .now)) (s .args .x .now) (s .args .y .now) (checks (e .before .before)) (e .if1 .left) in
-    (matched _ _ (h .0), h .1, h .2)
+call-requires : tie.Need-call-requires
+unfolding NoneLent
+call-requires c κs = rw (c .before .nearest .ensures) tt
 
 same-length : tie.Need-same-length
 same-length c = search needs
 
-returns-2 : tie.Need-returns-2
-unfolding forwardCall joint
-returns-2 c =
-    let e = c .before .before .before in
-    let s = e .before .before .before in
-    rw (run-goes (joint (s .args .col .now) (s .args .row .now)) (s .args .x .now) (s .args .y .now) (checks (e .before .before)) _ (e .if1 .left)) (c .before .forward-block .ensures)
+returns : tie.Need-returns
+unfolding callBy
+returns c = let r = c .before in rw (r .before .before .nearest .ensures) at (r .call .ensures)
 
 pub forward-spec : {M : Type 1} → statement M
-forward-spec =
-    tie.close (tie.spec check-run-requires returns forward-block-requires same-length returns-2)
+forward-spec = tie.close (tie.spec nearest-requires call-requires same-length returns)

@@ -15,10 +15,11 @@ use Rattle.rules.specs.declared.Kind.the-variants.{Permutation, Lower, U
 use Rattle.rules.specs.Numbers.{unit, unit²}
 use Rattle.rules.specs.Factors.{Factor, hasEntry, matrix}
 use Rattle.rules.specs.Stages.{Stage}
-use Rattle.rules.specs.Shapes.{turn, order, inRow, stageOf, lineStage, lineStages, jointSource, jointSign, jointWeight, jointShared, jointStage, jointStages}
-use Rattle.rules.specs.Laws.Good.{Permutes, Good, moves, weighs, AllGood, Sound, AllSound, AllMatch}
-use Rattle.rules.specs.Laws.Order.{Ranked, turns-recover}
-use Rattle.rules.specs.Laws.Rect.{row-below, col-below, same-place, pair-permutes}
+use Rattle.rules.specs.Shapes.{turn, order, inRow, stageOf, lineStage, lineStages, jointSource, jointSign, jointWeight}
+use Rattle.rules.specs.Shapes.{jointShared, jointStage, jointStages}
+use Rattle.rules.specs.Laws.GoodStages.{Permutes, Good, moves, weighs, AllGood, Sound, AllSound, AllMatch}
+use Rattle.rules.specs.Laws.RecoveryOrder.{Ranked, turns-recover}
+use Rattle.rules.specs.Laws.Rectangles.{row-below, col-below, same-element, pair-permutes}
 
 -- a stage by its kind: a move of kind 1, a weighing of every other kind
 pub by-kind : (P : Stage → Type 0) (kind : Kind) (a b : Stage) →
@@ -77,7 +78,8 @@ side-blind n f kind s m k a b q h = rw (ne-eqb m k q, s, entry-blind f kind n m 
 
 -- no weight, or the column's turn is not later, and earlier off the diagonal
 abbrev Side : Kind → ℕ → Factor → ℕ → ℕ → Type 0
-Side kind n f m k = (matrix f m k ≡ pos 0) ⊎ ((turnOf kind n f k ≤ turnOf kind n f m) × ((m ≡ k) ⊎ (turnOf kind n f k < turnOf kind n f m)))
+Side kind n f m k =
+    (matrix f m k ≡ pos 0) ⊎ ((turnOf kind n f k ≤ turnOf kind n f m) × ((m ≡ k) ⊎ (turnOf kind n f k < turnOf kind n f m)))
 
 side-case : (n : ℕ) (f : Factor) (kind : Kind) → f .kind ≡ kind → (m k : ℕ) → m < n → k < n → Side kind n f m k
 side-case n f kind s m k a b = go (ℕ-discrete m k) (decLe (turnOf kind n f m) (turnOf kind n f k))
@@ -123,31 +125,40 @@ module _ (n1 n2 : ℕ) (A B : Factor) where
   abbrev colTurn : Kind → ℕ → ℕ
   colTurn kind e = turnOf kind n2 B (e % n2)
 
-  abbrev ownTurn : Kind → ℕ → ℕ
-  ownTurn kind e = turn kind (n1 * n2) (jointShared n1 n2 A B e) e
+  abbrev diagonalTurn : Kind → ℕ → ℕ
+  diagonalTurn kind e = turn kind (n1 * n2) (jointShared n1 n2 A B e) e
 
   -- a later row or column, and the other no earlier, is later
-  joint-grows : (kind : Kind) (e k : ℕ) → e < n1 * n2 → k < n1 * n2 → rowTurn kind k ≤ rowTurn kind e → colTurn kind k ≤ colTurn kind e →
-      (rowTurn kind k < rowTurn kind e) ⊎ (colTurn kind k < colTurn kind e) → e ≢ k → ownTurn kind k < ownTurn kind e
+  joint-grows : (kind : Kind) (e k : ℕ) → e < n1 * n2 → k < n1 * n2 → rowTurn kind k ≤ rowTurn kind e →
+      colTurn kind k ≤ colTurn kind e →
+      (rowTurn kind k < rowTurn kind e) ⊎ (colTurn kind k < colTurn kind e) → e ≢ k → diagonalTurn kind k < diagonalTurn kind e
   unfolding turn jointShared
-  joint-grows Permutation e k l m h g s q = omega (arith, NatL.mul-le-mul-right n2 h, NatL.div-add-mod' e n2, NatL.div-add-mod' k n2)
+  joint-grows Permutation e k l m h g s q =
+      omega (arith, NatL.mul-le-mul-right n2 h, NatL.div-add-mod' e n2, NatL.div-add-mod' k n2)
   joint-grows Lower e k l m h g s q = omega (arith, NatL.mul-le-mul-right n2 h, NatL.div-add-mod' e n2, NatL.div-add-mod' k n2)
   joint-grows Upper e k l m h g s q =
       let r : e / n2 ≤ k / n2 = omega (arith, row-below n1 n2 e l, row-below n1 n2 k m) in
-      omega (arith, col-below n1 n2 e l, col-below n1 n2 k m, NatL.mul-le-mul-right n2 r, NatL.div-add-mod' e n2, NatL.div-add-mod' k n2)
+      omega (
+        arith,
+        col-below n1 n2 e l,
+        col-below n1 n2 k m,
+        NatL.mul-le-mul-right n2 r,
+        NatL.div-add-mod' e n2,
+        NatL.div-add-mod' k n2,
+      )
   joint-grows Single e k l m h g (inl s) q = omega arith
   joint-grows Single e k l m h g (inr s) q = omega arith
 
   module _ (match : A .kind ≡ B .kind) where
     joint-blind : (e k : ℕ) → e < n1 * n2 → k < n1 * n2 → e ≢ k →
-        ownTurn (A .kind) e ≤ ownTurn (A .kind) k → jointWeight n1 n2 A B e k ≡ pos 0
+        diagonalTurn (A .kind) e ≤ diagonalTurn (A .kind) k → jointWeight n1 n2 A B e k ≡ pos 0
     unfolding jointWeight
     joint-blind e k l m q t =
         go (side-case n1 A (A .kind) refl (e / n2) (k / n2) (row-below n1 n2 e l) (row-below n1 n2 k m))
         (side-case n2 B (A .kind) (sym match) (e % n2) (k % n2) (col-below n1 n2 e l) (col-below n1 n2 k m))
       where
         one : {X Y : Type 0} → (e / n2 ≡ k / n2) ⊎ X → (e % n2 ≡ k % n2) ⊎ Y → X ⊎ Y
-        one (inl i) (inl j) = absurd (q (same-place n1 n2 e k i j))
+        one (inl i) (inl j) = absurd (q (same-element n1 n2 e k i j))
         one (inl i) (inr y) = inr y
         one (inr x) j = inl x
 
@@ -157,12 +168,13 @@ module _ (n1 n2 : ℕ) (A B : Factor) where
         go (inr a) (inl z) = rw z (*ℤ-zero (matrix A (e / n2) (k / n2)))
         go (inr a) (inr b) = absurd (omega (arith, joint-grows (A .kind) e k l m (a .0) (b .0) (one (a .1) (b .1)) q))
 
-    joint-ranked : Ranked (n1 * n2) (n1 * n2 + 4) (jointWeight n1 n2 A B) (ownTurn (A .kind))
+    joint-ranked : Ranked (n1 * n2) (n1 * n2 + 4) (jointWeight n1 n2 A B) (diagonalTurn (A .kind))
     joint-ranked = record { top = λ e l. turn-top (A .kind) (n1 * n2) _ e l (shared-most e); blind = joint-blind }
 
     pub joint-signs : Sound n1 A → Sound n2 B → A .kind ≢ Permutation → (e : ℕ) → e < n1 * n2 → Sign (jointSign n1 n2 A B e)
     unfolding jointSign
-    joint-signs s t q e l = signs-times (s .signs q _ (row-below n1 n2 e l)) (t .signs (λ z. q (match ∙ z)) _ (col-below n1 n2 e l))
+    joint-signs s t q e l =
+        signs-times (s .signs q _ (row-below n1 n2 e l)) (t .signs (λ z. q (match ∙ z)) _ (col-below n1 n2 e l))
 
     pub joint-good : Sound n1 A → Sound n2 B → Good (n1 * n2) (jointStage n1 n2 A B)
     unfolding jointStage order

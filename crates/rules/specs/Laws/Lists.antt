@@ -15,7 +15,7 @@ use Rattle.whole.specs.Diff.{Within}
 use Rattle.whole.specs.Sum.{sum-cong}
 use Rattle.rules.specs.Numbers.{at}
 use Rattle.rules.specs.Stages.{fill, inside, off, weighed, putBack}
-use Rattle.rules.specs.Laws.Places.{true-false}
+use Rattle.rules.specs.Laws.Membership.{true-false}
 
 -- ---- fill
 pub length-fill : (n : ℕ) (f : ℕ → ℤ) (v : List ℤ) → length (fill n f v) ≡ length v
@@ -67,7 +67,8 @@ set-other v e k a q = getD-set-other v e k a (pos 0) q
 pub inside-yes : (B n : ℕ) (v : List ℤ) → ((k : ℕ) → k < n → Within B (at v k)) → inside B n v ≡ true
 unfolding inside
 inside-yes B zero v h = refl
-inside-yes B (suc n) v h = rw (le-leb (natAbs (at v n)) B (h n (omega arith) .within)) (inside-yes B n v (λ k l. h k (omega arith)))
+inside-yes B (suc n) v h =
+    rw (le-leb (natAbs (at v n)) B (h n (omega arith) .within)) (inside-yes B n v (λ k l. h k (omega arith)))
 
 pub inside-no : (B n : ℕ) (v : List ℤ) (k : ℕ) → k < n → B < natAbs (at v k) → inside B n v ≡ false
 unfolding inside

@@ -1,4 +1,5 @@
--- A map of the numbers below N to themselves that takes no two to one is a permutation: what the check of a sheet leaves is enough.
+-- A map of the numbers below N to themselves that takes no two to one is a permutation: what the check of a sheet leaves is
+-- enough.
 use mathlib.Core.Bool.{Bool, true, false, cond}
 use mathlib.Core.Logic.{_≢_, _⊎_, inl, inr}
 use mathlib.Core.Path.{_≡_, refl, sym, ap, _∙_}
@@ -7,7 +8,7 @@ use native.Mathlib.Decide.{ℕ-discrete, decLt}
 use native.Mathlib.Omega.{arith}
 use borrow.Author.Tests.{eqb-true, eqb-false, ltb-true, ltb-false}
 use lib.Dec.{eqb, ltb}
-use Rattle.rules.specs.Laws.Good.{Permutes}
+use Rattle.rules.specs.Laws.GoodStages.{Permutes}
 
 abbrev pub Apart : ℕ → (ℕ → ℕ) → Type 0
 Apart n p = (i j : ℕ) → i < j → j < n → p i ≢ p j
@@ -50,7 +51,8 @@ too-many (suc n) p h a =
     let v = p (suc n) in
     too-many n (λ i. squeeze v (p i))
     (λ i l. squeeze-below v (p i) n (a i (suc n) l (omega arith)) (h i (omega arith)) (h (suc n) (omega arith)))
-    (λ i j l m. squeeze-apart v (p i) (p j) (a i (suc n) (omega arith) (omega arith)) (a j (suc n) m (omega arith)) (a i j l (omega arith)))
+    (λ i j l m. squeeze-apart v (p i) (p j) (a i (suc n) (omega arith) (omega arith)) (a j (suc n) m (omega arith))
+    (a i j l (omega arith)))
 
 -- the number below n that p takes to e
 find : (ℕ → ℕ) → ℕ → ℕ → ℕ

@@ -7,9 +7,10 @@ use native.Mathlib.Omega.{arith}
 use lib.IntN.{ℤ}
 use lib.ListN.{length, length-reverse}
 use Rattle.rules.specs.Numbers.{bound, at}
-use Rattle.rules.specs.Stages.{Rule, inside, Stage, forward, undo, Ran, done, beyond, later, run, through, runForward, runInverse}
-use Rattle.rules.specs.Laws.Good.{Good, AllGood}
-use Rattle.rules.specs.Laws.Back.{length-forward, length-undo, undo-forward, forward-undo}
+use Rattle.rules.specs.declared.Rule.{Rule}
+use Rattle.rules.specs.Stages.{inside, Stage, forward, undo, Ran, done, beyond, later, run, through, runForward, runInverse}
+use Rattle.rules.specs.Laws.GoodStages.{Good, AllGood}
+use Rattle.rules.specs.Laws.Inverses.{length-forward, length-undo, undo-forward, forward-undo}
 
 -- a second run on what a first one of n stages gave: its refusal is n stages later
 unfoldable pub follow : ℕ → Ran → (List ℤ → Ran) → Ran
@@ -48,7 +49,8 @@ module _ (ok : List ℤ → Bool) (step : Stage → List ℤ → List ℤ) where
   unfolding run
   run-none v h = rw h
 
-  run-step : (s : Stage) (ss : List Stage) (v : List ℤ) → ok v ≡ true → run ok step (s ∷ ss) v ≡ later 1 (run ok step ss (step s v))
+  run-step : (s : Stage) (ss : List Stage) (v : List ℤ) → ok v ≡ true →
+      run ok step (s ∷ ss) v ≡ later 1 (run ok step ss (step s v))
   unfolding run
   run-step s ss v h = rw h
 
@@ -85,7 +87,8 @@ module _ (ok : List ℤ → Bool) (step : Stage → List ℤ → List ℤ) where
   run-through [] v u h = let e = run-none v (run-in [] v u h) in cc
   run-through (s ∷ ss) v u h = run-through ss (step s v) u (run-next s ss v u h)
 
-  -- ---- for a loop over the stages: after t stages, with v and the stages ss left, the run's answer is later t (run ok step ss v)
+  -- ---- for a loop over the stages: after t stages, with v and the stages ss left, the run's answer is later t (run ok step ss
+  -- v)
   pub loop-start : (ss : List Stage) (v : List ℤ) → run ok step ss v ≡ later 0 (run ok step ss v)
   loop-start ss v = sym (later-none (run ok step ss v))
 
@@ -105,11 +108,13 @@ module _ (ok : List ℤ → Bool) (step : Stage → List ℤ → List ℤ) where
 module _ (N : ℕ) (ok : List ℤ → Bool) (f g : Stage → List ℤ → List ℤ)
     (long : (s : Stage) (v : List ℤ) → length (f s v) ≡ length v)
     (undoes : (s : Stage) → Good N s → (v : List ℤ) → N ≤ length v → g s (f s v) ≡ v) where
-  one-back : (s : Stage) → Good N s → (x : List ℤ) → N ≤ length x → ok x ≡ true → ok (f s x) ≡ true → run ok g (s ∷ []) (f s x) ≡ done x
+  one-back : (s : Stage) → Good N s → (x : List ℤ) → N ≤ length x → ok x ≡ true → ok (f s x) ≡ true →
+      run ok g (s ∷ []) (f s x) ≡ done x
   unfolding run later
   one-back s q x room h k = rw (k, undoes s q x room, h)
 
-  trip : {ss : List Stage} → AllGood N ss → (x y : List ℤ) → N ≤ length x → run ok f ss x ≡ done y → run ok g (reverse ss) y ≡ done x
+  trip : {ss : List Stage} → AllGood N ss → (x y : List ℤ) → N ≤ length x → run ok f ss x ≡ done y →
+      run ok g (reverse ss) y ≡ done x
   unfolding follow later through
   trip AllGood.none x y room h =
       let e : x ≡ y = run-through ok f [] x y h in
@@ -129,7 +134,8 @@ all-reverse AllGood.none = AllGood.none
 all-reverse (AllGood.more {s} {ss} q a) = rw (reverse-cons s ss) (all-append (all-reverse a) (AllGood.more q AllGood.none))
 
 module _ (rule : Rule) where
-  -- THERE AND BACK: a block that the forward run accepts comes back, since the inverse run accepts its coefficients and gives the block
+  -- THERE AND BACK: a block that the forward run accepts comes back, since the inverse run accepts its coefficients and gives the
+  -- block
   pub there-and-back : {N : ℕ} {ss : List Stage} → AllGood N ss → (x y : List ℤ) → N ≤ length x →
       runForward rule N ss x ≡ done y → runInverse rule N ss y ≡ done x
   unfolding runForward runInverse

@@ -42,13 +42,5 @@ returns c =
 pub put-afterwards-spec : {M : Type 1} → statement M
 put-afterwards-spec =
     tie.close
-    (tie.spec
-    inverse-requires
-    slice-aggregate-put-reply
-    put-reply-requires
-    allowance-requires
-    slice-aggregate-put-reply-2
-    put-reply-requires-2
-    same-length
-    same-length-2
-    returns)
+    (tie.spec inverse-requires slice-aggregate-put-reply put-reply-requires allowance-requires slice-aggregate-put-reply-2
+    put-reply-requires-2 same-length same-length-2 returns)

@@ -53,15 +53,5 @@ returns-2 c =
 pub put-runs-spec : {M : Type 1} → statement M
 put-runs-spec =
     tie.close
-    (tie.spec
-    forward-requires
-    slice-aggregate-put-reply
-    put-reply-requires
-    same-length
-    same-length-2
-    returns
-    put-afterwards-requires
-    same-length-3
-    same-length-4
-    same-length-5
-    returns-2)
+    (tie.spec forward-requires slice-aggregate-put-reply put-reply-requires same-length same-length-2 returns
+    put-afterwards-requires same-length-3 same-length-4 same-length-5 returns-2)

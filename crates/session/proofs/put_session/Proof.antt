@@ -130,29 +130,7 @@ returns-2 c =
 pub put-session-spec : {M : Type 1} → statement M
 put-session-spec =
     tie.close
-    (tie.spec
-    check-count-requires
-    put-refusal-requires
-    same-length
-    returns
-    block-at-requires
-    sub-put-runs
-    part-put-runs-start
-    part-put-runs-end
-    mul-put-runs
-    sub-put-runs-2
-    part-put-runs-start-2
-    part-put-runs-end-2
-    mul-put-runs-2
-    sub-put-runs-3
-    part-put-runs-start-3
-    part-put-runs-end-3
-    mul-put-runs-3
-    sub-put-runs-4
-    part-put-runs-start-4
-    part-put-runs-end-4
-    put-runs-requires
-    same-length-2
-    same-length-3
-    same-length-4
-    returns-2)
+    (tie.spec check-count-requires put-refusal-requires same-length returns block-at-requires sub-put-runs part-put-runs-start
+    part-put-runs-end mul-put-runs sub-put-runs-2 part-put-runs-start-2 part-put-runs-end-2 mul-put-runs-2 sub-put-runs-3
+    part-put-runs-start-3 part-put-runs-end-3 mul-put-runs-3 sub-put-runs-4 part-put-runs-start-4 part-put-runs-end-4
+    put-runs-requires same-length-2 same-length-3 same-length-4 returns-2)

@@ -67,16 +67,5 @@ returns-3 c =
 pub text-of-spec : {M : Type 1} → statement M
 text-of-spec =
     tie.close
-    (tie.spec
-    refused-requires
-    put-refusal-requires
-    same-length
-    returns
-    scan-requires
-    refused-requires-2
-    put-refusal-requires-2
-    same-length-2
-    returns-2
-    put-decoded-requires
-    same-length-3
-    returns-3)
+    (tie.spec refused-requires put-refusal-requires same-length returns scan-requires refused-requires-2 put-refusal-requires-2
+    same-length-2 returns-2 put-decoded-requires same-length-3 returns-3)

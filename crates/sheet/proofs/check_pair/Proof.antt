@@ -58,12 +58,5 @@ returns-3 c =
 pub check-pair-spec : {M : Type 1} → statement M
 check-pair-spec =
     tie.close
-    (tie.spec
-    read-sheet-requires
-    answer-of-requires
-    returns
-    read-sheet-requires-2
-    answer-of-requires-2
-    returns-2
-    check-match-requires
-    returns-3)
+    (tie.spec read-sheet-requires answer-of-requires returns read-sheet-requires-2 answer-of-requires-2 returns-2
+    check-match-requires returns-3)

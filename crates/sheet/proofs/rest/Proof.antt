@@ -1,6 +1,5 @@
--- No place of a reading lies past the end, so the part exists;
--- from the place to the end it is the sheet without its first numbers.
--- Assumes nothing.
+-- No place of a reading lies past the end, so the part exists; from the place to the end it is the sheet without its first
+-- numbers. Assumes nothing.
 use mathlib.Core.Path.{_≡_, refl, sym}
 use mathlib.Core.List.{List}
 use Prim.Native.Nat.{ℕ, _-_, _≤_}
@@ -55,15 +54,18 @@ read-sheet-requires-2 c κs = search needs
 
 mul-result-2 : tie.Need-mul-result-2
 mul-result-2 c =
-    let h = placed (c .before .before .before .before .before .before .args .row .now) (c .before .before .read-sheet2 .ensures) in
+    let h = placed (c .before .before .before .before .before .before .args .row .now)
+    (c .before .before .read-sheet2 .ensures) in
     search needs
 
 sub-result-2 : tie.Need-sub-result-2
-sub-result-2 c = placed (c .before .before .before .before .before .before .args .row .now) (c .before .before .read-sheet2 .ensures)
+sub-result-2 c =
+    placed (c .before .before .before .before .before .before .args .row .now) (c .before .before .read-sheet2 .ensures)
 
 part-result-start-2 : tie.Need-part-result-start-2
 part-result-start-2 c =
-    let h = placed (c .before .before .before .before .before .before .args .row .now) (c .before .before .read-sheet2 .ensures) in
+    let h = placed (c .before .before .before .before .before .before .args .row .now)
+    (c .before .before .read-sheet2 .ensures) in
     search needs
 
 part-result-end-2 : tie.Need-part-result-end-2
@@ -74,8 +76,13 @@ unfolding IsRest
 returns-2 c =
     let e = c .before .before .before in
     let d = e .before .before .before in
-    rw
-    (sym (d .read-sheet .ensures), eq-eqb _ 0 (e .before .if1 .left), sym (e .read-sheet2 .ensures), ne-eqb _ 0 (c .before .if2 .taken))
+    rw (
+      sym (d .read-sheet .ensures),
+      eq-eqb _ 0 (e .before .if1 .left),
+      sym (e .read-sheet2 .ensures),
+      ne-eqb _ 0
+          (c .before .if2 .taken),
+    )
     (record { block = refl; offset = add-comm _ _; list = to-end (d .before .args .row .now) (e .read-sheet2 .result .place) })
 
 mul-result-3 : tie.Need-mul-result-3
@@ -95,27 +102,23 @@ unfolding IsRest
 returns-3 c =
     let e = c .before .before .before in
     let d = e .before .before .before in
-    rw (sym (d .read-sheet .ensures), eq-eqb _ 0 (e .before .if1 .left), sym (e .read-sheet2 .ensures), eq-eqb _ 0 (c .before .if2 .left))
-    (record { block = refl; offset = add-comm _ _; list = to-end (d .before .args .col .now) (length (d .before .args .col .now)) })
+    rw (
+      sym (d .read-sheet .ensures),
+      eq-eqb _ 0 (e .before .if1 .left),
+      sym (e .read-sheet2 .ensures),
+      eq-eqb _ 0
+          (c .before .if2 .left),
+    )
+    (record {
+      block = refl;
+      offset = add-comm _ _;
+      list = to-end (d .before .args .col .now)
+          (length (d .before .args .col .now));
+    })
 
 pub rest-spec : {M : Type 1} → statement M
 rest-spec =
     tie.close
-    (tie.spec
-    read-sheet-requires
-    mul-result
-    sub-result
-    part-result-start
-    part-result-end
-    returns
-    read-sheet-requires-2
-    mul-result-2
-    sub-result-2
-    part-result-start-2
-    part-result-end-2
-    returns-2
-    mul-result-3
-    sub-result-3
-    part-result-start-3
-    part-result-end-3
-    returns-3)
+    (tie.spec read-sheet-requires mul-result sub-result part-result-start part-result-end returns read-sheet-requires-2
+    mul-result-2 sub-result-2 part-result-start-2 part-result-end-2 returns-2 mul-result-3 sub-result-3 part-result-start-3
+    part-result-end-3 returns-3)

@@ -1,11 +1,16 @@
--- The strip of this shape in this direction.
-use Rattle.strip.specs.Plans.{planOf, callOf}
+-- The strip of this shape and task.
+use Rattle.factor.specs.Tasks.{callBy}
+use Rattle.strip.specs.Plans.{planOf, TakesBlocks}
 use borrow.Author.Needs.{needs}
 use Rattle.strip.proofs.joint_inverse.Statement.{statement}
 use Rattle.strip.proofs.joint_inverse.Tie as tie
 
+nearest-requires : tie.Need-nearest-requires
+nearest-requires c κs = search needs
+
 run-strip-requires : tie.Need-run-strip-requires
-run-strip-requires c κs = search needs
+unfolding TakesBlocks
+run-strip-requires c κs = rw (c .before .before .nearest .ensures) tt
 
 same-length : tie.Need-same-length
 same-length c = search needs
@@ -14,8 +19,10 @@ same-length-2 : tie.Need-same-length-2
 same-length-2 c = search needs
 
 returns : tie.Need-returns
-unfolding planOf callOf
-returns c = c .before .before .before .run-strip .ensures
+unfolding planOf callBy
+returns c =
+    let r = c .before .before .before in
+    rw (r .before .before .before .nearest .ensures) at (r .run-strip .ensures)
 
 pub joint-inverse-spec : {M : Type 1} → statement M
-joint-inverse-spec = tie.close (tie.spec run-strip-requires same-length same-length-2 returns)
+joint-inverse-spec = tie.close (tie.spec nearest-requires run-strip-requires same-length same-length-2 returns)

@@ -42,14 +42,5 @@ returns c = search needs
 pub main-spec : {M : Type 1} → statement M
 main-spec =
     tie.close
-    (tie.spec
-    slice-aggregate-read-full
-    read-full-requires
-    array-share-prefix-input
-    slice-aggregate-text-of
-    slice-aggregate-text-of-2
-    text-of-requires
-    array-share-prefix-text
-    slice-aggregate-write-all
-    write-all-requires
-    returns)
+    (tie.spec slice-aggregate-read-full read-full-requires array-share-prefix-input slice-aggregate-text-of
+    slice-aggregate-text-of-2 text-of-requires array-share-prefix-text slice-aggregate-write-all write-all-requires returns)

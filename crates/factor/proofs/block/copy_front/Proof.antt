@@ -59,16 +59,5 @@ returns c =
 pub copy-front-spec : {M : Type 1} → statement M
 copy-front-spec =
     tie.close
-    (tie.spec
-    Inv-loop
-    μ-loop
-    loop-holds
-    mul-y
-    shared-slice-copy-out-y
-    mul-t9
-    slice-set-from-y
-    add-k
-    loop-less
-    loop-again
-    same-length
-    returns)
+    (tie.spec Inv-loop μ-loop loop-holds mul-y shared-slice-copy-out-y mul-t9 slice-set-from-y add-k loop-less loop-again
+    same-length returns)

@@ -12,7 +12,7 @@ use Rattle.whole.specs.Diff.{Within}
 use Rattle.whole.specs.Machine.{back}
 use Rattle.rules.specs.Numbers.{bound, at}
 use Rattle.rules.specs.Laws.Lists.{inside-yes}
-use Rattle.factor.specs.Reach.{beyond-there, test-yes}
+use Rattle.factor.specs.SumBounds.{beyond-there, test-yes}
 use Rattle.factor.proofs.bounds.is_inside.Statement.{statement}
 use Rattle.factor.proofs.bounds.is_inside.Tie as tie
 
@@ -39,15 +39,19 @@ is-within-requires c κs = tt
 
 told :
     (c : tie.After-is-within Inv-loop μ-loop) →
-    c .is-within .result ≡ leb (natAbs (at (c .before .before .before .before .before .args .x .now) (c .before .before .before .before .loop .k))) bound
-told c = c .is-within .ensures ∙ rw (back w64 _ (c .before .wide .ok), c .before .wide .ensures, back w32 _ (c .before .before .wide-arg .given))
+    c .is-within .result ≡ leb (natAbs (at (c .before .before .before .before .before .args .x .now)
+    (c .before .before .before .before .loop .k))) bound
+told c =
+    c .is-within .ensures
+    ∙ rw (back w64 _ (c .before .wide .ok), c .before .wide .ensures, back w32 _ (c .before .before .wide-arg .given))
 
 returns : tie.Need-returns Inv-loop μ-loop
 returns c =
     let i = c .before .before .before .before in
     let l = i .before .loop in
     let s = i .before .before in
-    sym (beyond-there bound _ (s .args .x .now) (l .k) _ (i .loop-test .taken) refl (sym (told (c .before)) ∙ not-true _ (c .if1 .taken)))
+    sym (beyond-there bound _ (s .args .x .now) (l .k) _ (i .loop-test .taken) refl
+    (sym (told (c .before)) ∙ not-true _ (c .if1 .taken)))
 
 add-k : tie.Need-add-k Inv-loop μ-loop
 add-k c = omega arith
@@ -70,16 +74,5 @@ returns-2 c =
 pub is-inside-spec : {M : Type 1} → statement M
 is-inside-spec =
     tie.close
-    (tie.spec
-    Inv-loop
-    μ-loop
-    loop-holds
-    mul-wide
-    shared-slice-copy-out-wide
-    wide-requires
-    is-within-requires
-    returns
-    add-k
-    loop-less
-    loop-again
-    returns-2)
+    (tie.spec Inv-loop μ-loop loop-holds mul-wide shared-slice-copy-out-wide wide-requires is-within-requires returns add-k
+    loop-less loop-again returns-2)

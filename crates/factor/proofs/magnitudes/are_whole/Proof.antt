@@ -40,7 +40,8 @@ is-whole-requires c κs =
 told :
     (c : tie.After-is-whole Inv-loop μ-loop) →
     c .is-whole .result
-    ≡ eqb (natAbs (at (c .before .before .before .before .args .a .now) (c .before .before .before .before .args .p + c .before .before .before .loop .j)) % unit) 0
+    ≡ eqb (natAbs (at (c .before .before .before .before .args .a .now)
+    (c .before .before .before .before .args .p + c .before .before .before .loop .j)) % unit) 0
 told c =
     let s = c .before .before .before .before in
     let l = c .before .before .before .loop in
@@ -49,7 +50,8 @@ told c =
 returns : tie.Need-returns Inv-loop μ-loop
 returns c =
     let l = c .before .before .before .before .loop in
-    sym (l .inv .1 ∙ whole-stop _ _ _ (l .j) (c .before .before .before .loop-test .taken) (sym (told (c .before)) ∙ not-true _ (c .if1 .taken)))
+    sym (l .inv .1 ∙ whole-stop _ _ _ (l .j) (c .before .before .before .loop-test .taken)
+    (sym (told (c .before)) ∙ not-true _ (c .if1 .taken)))
 
 add-j : tie.Need-add-j Inv-loop μ-loop
 add-j c = omega arith
@@ -59,8 +61,11 @@ loop-less c = omega arith
 
 loop-again : tie.Need-loop-again Inv-loop μ-loop
 loop-again c =
-    let l = c .before .before .before .before .loop in
-    (omega arith, l .inv .1 ∙ whole-on _ _ _ (l .j) (c .before .before .before .loop-test .taken) (sym (told (c .before)) ∙ not-false _ (c .if1 .left)))
+    let l = c .before .before .before .before .loop in (
+      omega arith,
+      l .inv .1 ∙ whole-on _ _ _ (l .j) (c .before .before .before .loop-test .taken)
+          (sym (told (c .before)) ∙ not-false _ (c .if1 .left)),
+    )
 
 returns-2 : tie.Need-returns-2 Inv-loop μ-loop
 returns-2 c = sym (c .before .loop .inv .1 ∙ whole-end _ _ _ (c .before .loop .j) (omega arith))
@@ -68,16 +73,5 @@ returns-2 c = sym (c .before .loop .inv .1 ∙ whole-end _ _ _ (c .before .loop 
 pub are-whole-spec : {M : Type 1} → statement M
 are-whole-spec =
     tie.close
-    (tie.spec
-    Inv-loop
-    μ-loop
-    loop-holds
-    add-is-whole
-    mul-is-whole
-    shared-slice-copy-out-is-whole
-    is-whole-requires
-    returns
-    add-j
-    loop-less
-    loop-again
-    returns-2)
+    (tie.spec Inv-loop μ-loop loop-holds add-is-whole mul-is-whole shared-slice-copy-out-is-whole is-whole-requires returns add-j
+    loop-less loop-again returns-2)

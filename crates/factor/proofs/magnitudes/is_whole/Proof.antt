@@ -13,7 +13,14 @@ size-requires : tie.Need-size-requires
 size-requires c κs = rw (back w32 _ (c .magnitude .ok), c .magnitude .ensures) tt
 
 returns : tie.Need-returns
-returns c = rw (c .size .ensures, back w32 _ (c .before .magnitude .ok), c .before .magnitude .ensures, toZ-ofZ (c .before .before .fits .z))
+returns c =
+    rw (
+      c .size .ensures,
+      back w32 _ (c .before .magnitude .ok),
+      c .before .magnitude .ensures,
+      toZ-ofZ
+          (c .before .before .fits .z),
+    )
 
 pub is-whole-spec : {M : Type 1} → statement M
 is-whole-spec = tie.close (tie.spec magnitude-requires size-requires returns)

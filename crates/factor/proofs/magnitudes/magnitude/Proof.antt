@@ -23,7 +23,8 @@ returns : tie.Need-returns
 returns c = rw (toZ-ofZ (c .before .fits .z), reads w32 (less c) tt) (negative c)
 
 returns-2 : tie.Need-returns-2
-returns-2 c = rw (toZ-ofZ (c .before .fits .z)) (not-below (c .before .args .z) (rw (toZ-ofZ (c .before .fits .z)) at (c .if1 .left)))
+returns-2 c =
+    rw (toZ-ofZ (c .before .fits .z)) (not-below (c .before .args .z) (rw (toZ-ofZ (c .before .fits .z)) at (c .if1 .left)))
 
 pub magnitude-spec : {M : Type 1} → statement M
 magnitude-spec = tie.close (tie.spec sub-result returns returns-2)

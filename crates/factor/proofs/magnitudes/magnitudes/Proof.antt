@@ -69,17 +69,5 @@ returns c =
 pub magnitudes-spec : {M : Type 1} → statement M
 magnitudes-spec =
     tie.close
-    (tie.spec
-    Inv-loop
-    μ-loop
-    loop-holds
-    add-magnitude
-    mul-magnitude
-    shared-slice-copy-out-magnitude
-    magnitude-requires
-    mul-b
-    array-set-from-b
-    add-j
-    loop-less
-    loop-again
-    returns)
+    (tie.spec Inv-loop μ-loop loop-holds add-magnitude mul-magnitude shared-slice-copy-out-magnitude magnitude-requires mul-b
+    array-set-from-b add-j loop-less loop-again returns)

@@ -7,7 +7,7 @@ use mir.Syntax.{w32, w64}
 use mir.Val.{SFits, toZ, ofZ}
 use Rattle.whole.specs.Diff.{lia, zarith}
 use Rattle.whole.specs.Machine.{widen}
-use Rattle.factor.specs.Reach.{beyond-low, not-low}
+use Rattle.factor.specs.SumBounds.{beyond-low, not-low}
 use Rattle.factor.proofs.rounding.is_within.Statement.{statement}
 use Rattle.factor.proofs.rounding.is_within.Tie as tie
 

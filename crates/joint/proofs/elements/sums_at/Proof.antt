@@ -4,8 +4,8 @@ use native.Mathlib.Omega.{arith}
 use mir.Syntax.{w32}
 use mir.Val.{toZ, ofZ}
 use Rattle.whole.specs.Machine.{fits, back}
-use Rattle.factor.specs.Reach.{numbers-le}
-use Rattle.joint.specs.Elements.{signAt, ownOf, own-small, band-at}
+use Rattle.factor.specs.SumBounds.{bounded-le}
+use Rattle.joint.specs.Elements.{signAt, diagonalOf, diagonal-small, band-at}
 use borrow.Author.Needs.{needs}
 use Rattle.joint.proofs.elements.sums_at.Statement.{statement}
 use Rattle.joint.proofs.elements.sums_at.Tie as tie
@@ -16,27 +16,30 @@ row-of-requires c κs = let h = c .pre .0 in let r = h .row (c .args .i) (c .pre
 sign-at-requires : tie.Need-sign-at-requires
 sign-at-requires c κs = search needs
 
-sign : (c : tie.After-sign-at) → toZ w32 (ofZ w32 (c .sign-at .result)) ≡ signAt (c .before .before .args .col .now) (c .before .before .args .f) (c .before .before .args .i)
+sign : (c : tie.After-sign-at) →
+    toZ w32 (ofZ w32 (c .sign-at .result)) ≡ signAt (c .before .before .args .col .now) (c .before .before .args .f)
+    (c .before .before .args .i)
 sign c = back w32 _ (c .sign-at .ok) ∙ c .sign-at .ensures
 
-own : (c : tie.After-own-of) → toZ w32 (ofZ w32 (c .own-of .result)) ≡ ownOf (signAt (c .before .before .before .args .col .now) (c .before .before .before .args .f) (c .before .before .before .args .i))
-own c = back w32 _ (c .own-of .ok) ∙ c .own-of .ensures ∙ ap ownOf (sign (c .before))
+diagonal : (c : tie.After-diagonal-of) →
+    toZ w32 (ofZ w32 (c .diagonal-of .result)) ≡ diagonalOf
+    (signAt (c .before .before .before .args .col .now) (c .before .before .before .args .f) (c .before .before .before .args .i))
+diagonal c = back w32 _ (c .diagonal-of .ok) ∙ c .diagonal-of .ensures ∙ ap diagonalOf (sign (c .before))
 
-own-of-requires : tie.Need-own-of-requires
-own-of-requires c κs =
+diagonal-of-requires : tie.Need-diagonal-of-requires
+diagonal-of-requires c κs =
     let s = c .before .before in
-    rw (sign c) (fits (own-small (s .pre .0 .sign (s .args .i) (s .pre .1))) tt)
+    rw (sign c) (fits (diagonal-small (s .pre .0 .sign (s .args .i) (s .pre .1))) tt)
 
 column-sums-requires : tie.Need-column-sums-requires
 column-sums-requires c κs =
     let o = c .before in
     let s = o .before .before .before in
-    rw (own o, o .before .before .row-of .ensures) (band-at (s .pre .0) (s .args .i) (s .pre .1), s .pre .2, numbers-le (omega arith) (s .pre .3), s .pre .4)
+    rw (diagonal o, o .before .before .row-of .ensures)
+    (band-at (s .pre .0) (s .args .i) (s .pre .1), s .pre .2, bounded-le (omega arith) (s .pre .3), s .pre .4)
 
 returns : tie.Need-returns
-returns c = c .column-sums .ensures ∙ (let o = c .before .before in rw (own o, o .before .before .row-of .ensures))
+returns c = c .column-sums .ensures ∙ (let o = c .before .before in rw (diagonal o, o .before .before .row-of .ensures))
 
 pub sums-at-spec : {M : Type 1} → statement M
-sums-at-spec =
-    tie.close
-    (tie.spec row-of-requires sign-at-requires own-of-requires column-sums-requires returns)
+sums-at-spec = tie.close (tie.spec row-of-requires sign-at-requires diagonal-of-requires column-sums-requires returns)

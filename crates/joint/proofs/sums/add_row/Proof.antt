@@ -29,37 +29,40 @@ loop-holds c = (omega arith, refl)
 room : (i : tie.In-loop Inv-loop μ-loop) → i .before .before .args .k + i .before .loop .c < 256
 room i = let h = i .before .before .pre .1 in let l = i .loop-test .taken in omega arith
 
-mul-with-number : tie.Need-mul-with-number Inv-loop μ-loop
-mul-with-number c = let h = c .before .before .pre .0 in omega arith
+mul-with-term : tie.Need-mul-with-term Inv-loop μ-loop
+mul-with-term c = let h = c .before .before .pre .0 in omega arith
 
-element-copy-out-with-number : tie.Need-element-copy-out-with-number Inv-loop μ-loop
-element-copy-out-with-number c = let h = c .before .before .pre .0 in omega arith
+element-copy-out-with-term : tie.Need-element-copy-out-with-term Inv-loop μ-loop
+element-copy-out-with-term c = let h = c .before .before .pre .0 in omega arith
 
-add-with-number : tie.Need-add-with-number Inv-loop μ-loop
-add-with-number c = let h = room (c .before) in omega arith
+add-with-term : tie.Need-add-with-term Inv-loop μ-loop
+add-with-term c = let h = room (c .before) in omega arith
 
-mul-with-number-2 : tie.Need-mul-with-number-2 Inv-loop μ-loop
-mul-with-number-2 c = let h = room (c .before) in omega arith
+mul-with-term-2 : tie.Need-mul-with-term-2 Inv-loop μ-loop
+mul-with-term-2 c = let h = room (c .before) in omega arith
 
-element-copy-out-with-number-2 : tie.Need-element-copy-out-with-number-2 Inv-loop μ-loop
-element-copy-out-with-number-2 c = let h = room (c .before) in omega arith
+element-copy-out-with-term-2 : tie.Need-element-copy-out-with-term-2 Inv-loop μ-loop
+element-copy-out-with-term-2 c = let h = room (c .before) in omega arith
 
 -- the sum whose turn it is
-still : (i : tie.In-loop Inv-loop μ-loop) → toZ w64 (ofZ w64 (at (i .before .loop .v) (i .before .loop .c))) ≡ at (i .before .before .args .v .now) (i .before .loop .c)
+still : (i : tie.In-loop Inv-loop μ-loop) →
+    toZ w64 (ofZ w64 (at (i .before .loop .v) (i .before .loop .c))) ≡ at (i .before .before .args .v .now) (i .before .loop .c)
 still i =
     let l = i .before .loop in
     let s = i .before .before in
-    let e : at (l .v) (l .c) ≡ at (s .args .v .now) (l .c) = ap (λ (w : List ℤ). at w (l .c)) (l .inv .1) ∙ fill-past (l .c) _ (s .args .v .now) (l .c) (le-refl (l .c)) in
+    let e : at (l .v) (l .c) ≡ at (s .args .v .now) (l .c) = ap (λ (w : List ℤ). at w (l .c)) (l .inv .1)
+    ∙ fill-past (l .c) _ (s .args .v .now) (l .c) (le-refl (l .c)) in
     rw e (reads w64 (s .pre .4 .small (l .c)) tt)
 
-with-number-requires : tie.Need-with-number-requires Inv-loop μ-loop
-with-number-requires c κs =
+with-term-requires : tie.Need-with-term-requires Inv-loop μ-loop
+with-term-requires c κs =
     let i = c .before .before in
     let s = i .before .before in
     let j = i .before .loop .c in
     let a = s .pre .2 in
     let x = s .pre .3 .small (s .args .k + j) in
-    rw (still i, toZ-ofZ (s .fits .a), reads w32 x tt) (fits a tt, fits x tt, fits (within-* a x) tt, fits (within-+ (s .pre .4 .small j) (within-* a x)) tt)
+    rw (still i, toZ-ofZ (s .fits .a), reads w32 x tt)
+    (fits a tt, fits x tt, fits (within-* a x) tt, fits (within-+ (s .pre .4 .small j) (within-* a x)) tt)
 
 mul-t18 : tie.Need-mul-t18 Inv-loop μ-loop
 mul-t18 c = let h = c .before .before .before .before .before .pre .0 in omega arith
@@ -78,8 +81,18 @@ unfolding fill
 loop-again c =
     let i = c .before .before .before in
     let s = i .before .before in
-    let l = i .before .loop in
-    (omega arith, rw (add-one, back w64 _ (c .with-number .ok), c .with-number .ensures, still i, reads w32 (s .pre .3 .small (s .args .k + l .c)) tt, l .inv .1))
+    let l = i .before .loop in (
+      omega arith,
+      rw (
+        add-one,
+        back w64 _ (c .with-term .ok),
+        c .with-term .ensures,
+        still i,
+        reads w32
+            (s .pre .3 .small (s .args .k + l .c)) tt,
+        l .inv .1,
+      ),
+    )
 
 returns : tie.Need-returns Inv-loop μ-loop
 returns c =
@@ -91,19 +104,5 @@ returns c =
 pub add-row-spec : {M : Type 1} → statement M
 add-row-spec =
     tie.close
-    (tie.spec
-    Inv-loop
-    μ-loop
-    loop-holds
-    mul-with-number
-    element-copy-out-with-number
-    add-with-number
-    mul-with-number-2
-    element-copy-out-with-number-2
-    with-number-requires
-    mul-t18
-    element-set-from-v
-    add-c
-    loop-less
-    loop-again
-    returns)
+    (tie.spec Inv-loop μ-loop loop-holds mul-with-term element-copy-out-with-term add-with-term mul-with-term-2
+    element-copy-out-with-term-2 with-term-requires mul-t18 element-set-from-v add-c loop-less loop-again returns)

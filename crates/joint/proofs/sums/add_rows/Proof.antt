@@ -19,7 +19,8 @@ loop-holds : tie.Need-loop-holds Inv-loop μ-loop
 loop-holds c = (omega arith, added-none (c .pre))
 
 -- row j lies in the block
-row : (i : tie.In-loop Inv-loop μ-loop) → i .before .before .args .k + i .before .loop .j * i .before .before .args .n + i .before .before .args .n ≤ 256
+row : (i : tie.In-loop Inv-loop μ-loop) →
+    i .before .before .args .k + i .before .loop .j * i .before .before .args .n + i .before .before .args .n ≤ 256
 row i =
     let s = i .before .before in
     let l : suc (i .before .loop .j) ≤ s .args .m = i .loop-test .taken in
@@ -46,7 +47,14 @@ add-row-requires c κs =
     let s = i .before .before in
     let l = i .before .loop in
     let e = s .pre .entries (l .j) (i .loop-test .taken) in
-    rw (reads w32 e tt) (s .pre .wide, row i, e, s .pre .numbers, rw (l .inv .1) (adding-small (s .pre) (l .j) (i .loop-test .taken)))
+    rw (reads w32 e tt) (
+      s .pre .wide,
+      row i,
+      e,
+      s .pre .numbers,
+      rw (l .inv .1)
+          (adding-small (s .pre) (l .j) (i .loop-test .taken)),
+    )
 
 add-j : tie.Need-add-j Inv-loop μ-loop
 add-j c = omega arith
@@ -72,17 +80,5 @@ returns c =
 pub add-rows-spec : {M : Type 1} → statement M
 add-rows-spec =
     tie.close
-    (tie.spec
-    Inv-loop
-    μ-loop
-    loop-holds
-    add-add-row
-    mul-add-row
-    shared-slice-copy-out-add-row
-    mul-add-row-2
-    add-add-row-2
-    add-row-requires
-    add-j
-    loop-less
-    loop-again
-    returns)
+    (tie.spec Inv-loop μ-loop loop-holds add-add-row mul-add-row shared-slice-copy-out-add-row mul-add-row-2 add-add-row-2
+    add-row-requires add-j loop-less loop-again returns)

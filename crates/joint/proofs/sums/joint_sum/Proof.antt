@@ -1,4 +1,4 @@
--- The own term comes off the column's sum (`own-first`), and what is left is small.
+-- The own term comes off the column's sum (`diagonal-first`), and what is left is small.
 use borrow.Author.Needs.{needs}
 use mathlib.Core.Path.{_≡_, _∙_}
 use lib.IntN.{ℤ, _-ℤ_, _*ℤ_}
@@ -7,7 +7,7 @@ use mir.Val.{toZ, ofZ}
 use Rattle.whole.specs.Diff.{Within}
 use Rattle.whole.specs.Machine.{fits, reads, back, within--, within-*}
 use Rattle.rules.specs.Numbers.{at}
-use Rattle.joint.specs.Sums.{mostOwn, own-first}
+use Rattle.joint.specs.Sums.{mostRest, diagonal-first}
 use Rattle.joint.proofs.sums.joint_sum.Statement.{statement}
 use Rattle.joint.proofs.sums.joint_sum.Tie as tie
 
@@ -18,9 +18,9 @@ element-copy-out-without : tie.Need-element-copy-out-without
 element-copy-out-without c = search needs
 
 abbrev W : tie.Start → ℤ
-W s = at (s .args .v .now) (s .args .m) -ℤ (s .args .up *ℤ s .args .x)
+W s = at (s .args .v .now) (s .args .m) -ℤ (s .args .other *ℤ s .args .x)
 
-small : (s : tie.Start) → Within mostOwn (W s)
+small : (s : tie.Start) → Within mostRest (W s)
 small s = within-- (s .pre .2 .small (s .args .m)) (within-* (s .pre .1) (s .pre .3))
 
 without-requires : tie.Need-without-requires
@@ -44,7 +44,7 @@ returns : tie.Need-returns
 returns c =
     let s = c .before .before .before in
     back w64 _ (c .whole-sum .ok) ∙ c .whole-sum .ensures
-    ∙ rw (left (c .before), reads w32 (s .pre .0 .small) tt) (own-first _ _ _ _ _ _ _)
+    ∙ rw (left (c .before), reads w32 (s .pre .0 .small) tt) (diagonal-first _ _ _ _ _ _ _)
 
 pub joint-sum-spec : {M : Type 1} → statement M
 joint-sum-spec = tie.close (tie.spec mul-without element-copy-out-without without-requires whole-sum-requires returns)

@@ -30,12 +30,4 @@ returns c =
     c .add-rows2 .ensures ∙ rw (r .add-rows .ensures, s .pre .3) (rest-rows (s .pre .0) (s .pre .1) (s .pre .2))
 
 pub rest-sums-spec : {M : Type 1} → statement M
-rest-sums-spec =
-    tie.close
-    (tie.spec
-    add-rows-requires
-    add-add-rows
-    add-add-rows-2
-    mul-add-rows
-    add-rows-requires-2
-    returns)
+rest-sums-spec = tie.close (tie.spec add-rows-requires add-add-rows add-add-rows-2 mul-add-rows add-rows-requires-2 returns)

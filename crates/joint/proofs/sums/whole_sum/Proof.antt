@@ -27,10 +27,12 @@ wide-sum-requires-2 c κs = right-wide (c .before .pre .0) (c .before .pre .1)
 abbrev S : tie.Start → ℤ
 S s = entriesSum (s .args .a .now) (s .args .r) (s .args .m) (at (s .args .v .now))
 
-value : (c : tie.After-wide-sum2) → toZ w64 (ofZ w64 (c .before .wide-sum .result)) +ℤ toZ w64 (ofZ w64 (c .wide-sum2 .result)) ≡ S (c .before .before)
+value : (c : tie.After-wide-sum2) →
+    toZ w64 (ofZ w64 (c .before .wide-sum .result)) +ℤ toZ w64 (ofZ w64 (c .wide-sum2 .result)) ≡ S (c .before .before)
 value c =
     let s = c .before .before in
-    ap₂ _+ℤ_ (back w64 _ (c .before .wide-sum .ok) ∙ c .before .wide-sum .ensures) (back w64 _ (c .wide-sum2 .ok) ∙ c .wide-sum2 .ensures)
+    ap₂ _+ℤ_ (back w64 _ (c .before .wide-sum .ok) ∙ c .before .wide-sum .ensures)
+    (back w64 _ (c .wide-sum2 .ok) ∙ c .wide-sum2 .ensures)
     ∙ wide-runs (s .args .a .now) (s .args .r) (s .args .m) (s .args .v .now)
 
 small : (s : tie.Start) → Within (15 * (mostEntry * mostColumn)) (S s)
@@ -45,22 +47,16 @@ with-sum-requires c κs =
     let a = s .pre .0 .small in
     let w = s .pre .2 in
     let t = small s in
-    rw (value c, reads w64 t tt, reads w32 a tt, reads w64 w tt) (fits a tt, fits (within-* a w) tt, fits (within-+ t (within-* a w)) tt)
+    rw (value c, reads w64 t tt, reads w32 a tt, reads w64 w tt)
+    (fits a tt, fits (within-* a w) tt, fits (within-+ t (within-* a w)) tt)
 
 returns : tie.Need-returns
 returns c =
     let s = c .before .before .before in
     let t = small s in
-    back w64 _ (c .with-sum .ok) ∙ c .with-sum .ensures ∙ rw (value (c .before), reads w64 t tt, reads w32 (s .pre .0 .small) tt, reads w64 (s .pre .2) tt)
+    back w64 _ (c .with-sum .ok) ∙ c .with-sum .ensures
+    ∙ rw (value (c .before), reads w64 t tt, reads w32 (s .pre .0 .small) tt, reads w64 (s .pre .2) tt)
 
 pub whole-sum-spec : {M : Type 1} → statement M
 whole-sum-spec =
-    tie.close
-    (tie.spec
-    wide-sum-requires
-    add-wide-sum
-    add-wide-sum-2
-    wide-sum-requires-2
-    add-sum
-    with-sum-requires
-    returns)
+    tie.close (tie.spec wide-sum-requires add-wide-sum add-wide-sum-2 wide-sum-requires-2 add-sum with-sum-requires returns)

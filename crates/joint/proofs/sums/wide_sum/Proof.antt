@@ -78,18 +78,5 @@ returns c =
 pub wide-sum-spec : {M : Type 1} → statement M
 wide-sum-spec =
     tie.close
-    (tie.spec
-    Inv-loop
-    μ-loop
-    loop-holds
-    add-with-sum
-    mul-with-sum
-    shared-slice-copy-out-with-sum
-    add-with-sum-2
-    mul-with-sum-2
-    element-copy-out-with-sum
-    with-sum-requires
-    add-j
-    loop-less
-    loop-again
-    returns)
+    (tie.spec Inv-loop μ-loop loop-holds add-with-sum mul-with-sum shared-slice-copy-out-with-sum add-with-sum-2 mul-with-sum-2
+    element-copy-out-with-sum with-sum-requires add-j loop-less loop-again returns)

@@ -1,6 +1,6 @@
 -- The numbers are copied over the front of an array of 0 (`load-is`).
 use mathlib.Core.Path.{_∙_}
-use Rattle.factor.specs.Blocks.{load-is}
+use Rattle.factor.specs.PaddedBlocks.{load-is}
 use borrow.Author.Needs.{needs}
 use Rattle.line.proofs.block.load.Statement.{statement}
 use Rattle.line.proofs.block.load.Tie as tie

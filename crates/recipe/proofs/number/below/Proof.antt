@@ -26,7 +26,8 @@ small : (c : tie.Start) → natAbs (c .args .v) - 1 < 2 ^ 31
 small c = rw ((is c) .mag-is) at (c .fits .v .sfits)
 
 -- the number that is cast
-minus : (c : tie.Start) → toZ w32 (ofZ w32 (pos 0 -ℤ toZ w32 (ofZ w32 (toZ w32 (ofZ w32 (c .args .v)) +ℤ pos 1)))) ≡ pos (natAbs (c .args .v) - 1)
+minus : (c : tie.Start) →
+    toZ w32 (ofZ w32 (pos 0 -ℤ toZ w32 (ofZ w32 (toZ w32 (ofZ w32 (c .args .v)) +ℤ pos 1)))) ≡ pos (natAbs (c .args .v) - 1)
 minus c =
     let v = c .args .v in
     rw (toZ-ofZ (c .fits .v), toZ-ofZ {w = w32} (plus-fits v (c .fits .v) (neg c)), (is c) .less-one)

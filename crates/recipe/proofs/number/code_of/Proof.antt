@@ -46,6 +46,4 @@ returns-2 : tie.Need-returns-2
 returns-2 c = rw (toZ-ofZ (c .before .fits .v)) (sym ((above c) .code-is))
 
 pub code-of-spec : {M : Type 1} → statement M
-code-of-spec =
-    tie.close
-    (tie.spec below-requires mul-result add-result returns cast-result mul-result-2 returns-2)
+code-of-spec = tie.close (tie.spec below-requires mul-result add-result returns cast-result mul-result-2 returns-2)

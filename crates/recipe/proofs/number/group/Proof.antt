@@ -69,14 +69,5 @@ returns-5 c =
 pub group-spec : {M : Type 1} → statement M
 group-spec =
     tie.close
-    (tie.spec
-    none-requires
-    returns
-    shared-slice-read-x
-    cast-x
-    ahead-requires
-    returns-2
-    returns-3
-    returns-4
-    none-requires-2
+    (tie.spec none-requires returns shared-slice-read-x cast-x ahead-requires returns-2 returns-3 returns-4 none-requires-2
     returns-5)

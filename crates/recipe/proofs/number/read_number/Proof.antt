@@ -43,13 +43,5 @@ returns-2 c =
 pub read-number-spec : {M : Type 1} → statement M
 read-number-spec =
     tie.close
-    (tie.spec
-    none-requires
-    returns
-    add-group
-    none-requires-2
-    group-requires
-    add-group-2
-    group-requires-2
-    group-requires-3
+    (tie.spec none-requires returns add-group none-requires-2 group-requires add-group-2 group-requires-2 group-requires-3
     returns-2)

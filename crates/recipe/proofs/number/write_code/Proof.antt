@@ -94,28 +94,6 @@ returns-3 c =
 pub write-code-spec : {M : Type 1} → statement M
 write-code-spec =
     tie.close
-    (tie.spec
-    cast-out
-    slice-write-out
-    add-result
-    same-length
-    returns
-    add-out
-    cast-out-2
-    slice-write-out-2
-    cast-out-3
-    add-out-2
-    slice-write-out-3
-    add-result-2
-    same-length-2
-    returns-2
-    add-out-3
-    cast-out-4
-    add-out-4
-    slice-write-out-4
-    cast-out-5
-    add-out-5
-    slice-write-out-5
-    add-result-3
-    same-length-3
-    returns-3)
+    (tie.spec cast-out slice-write-out add-result same-length returns add-out cast-out-2 slice-write-out-2 cast-out-3 add-out-2
+    slice-write-out-3 add-result-2 same-length-2 returns-2 add-out-3 cast-out-4 add-out-4 slice-write-out-4 cast-out-5 add-out-5
+    slice-write-out-5 add-result-3 same-length-3 returns-3)

@@ -47,11 +47,5 @@ returns c =
 pub check-numbers-spec : {M : Type 1} → statement M
 check-numbers-spec =
     tie.close
-    (tie.spec
-    smaller-requires
-    slice-aggregate-decode
-    decode-requires
-    array-share-prefix-copy
-    slice-aggregate-check
-    check-requires
-    returns)
+    (tie.spec smaller-requires slice-aggregate-decode decode-requires array-share-prefix-copy slice-aggregate-check
+    check-requires returns)

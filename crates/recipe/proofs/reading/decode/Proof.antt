@@ -50,15 +50,4 @@ returns c =
     l .inv .1 .list ∙ ap (λ (n : ℕ). over (take n (numbersOf (s .args .bytes .now))) (s .args .out .now)) e
 
 pub decode-spec : {M : Type 1} → statement M
-decode-spec =
-    tie.close
-    (tie.spec
-    Inv-loop
-    μ-loop
-    loop-holds
-    read-into-requires
-    add-k
-    loop-less
-    loop-again
-    same-length
-    returns)
+decode-spec = tie.close (tie.spec Inv-loop μ-loop loop-holds read-into-requires add-k loop-less loop-again same-length returns)

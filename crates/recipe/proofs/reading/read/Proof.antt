@@ -1,5 +1,5 @@
--- Two answers: a refusal keeps the slice; else the count that `scan` found fits (`did-read`), and the numbers
--- are put in its front.
+-- Two answers: a refusal keeps the slice; else the count that `scan` found fits (`did-read`), and the numbers are put in its
+-- front.
 use mathlib.Core.List.{List}
 use mathlib.Core.Path.{sym, ap, _∙_}
 use Prim.Native.Nat.{ℕ}
@@ -10,7 +10,8 @@ use lib.Seq.{take-length}
 use Rattle.rules.specs.declared.Answer.{Answer}
 use Rattle.rules.specs.Recipes.{numbersOf}
 use Rattle.rules.specs.Calls.{reply, over, read}
-use Rattle.recipe.specs.Calls.{keeps, fills, did-read}
+use Rattle.laws.specs.AnswersInTurn.{keeps, fills}
+use Rattle.recipe.specs.Calls.{did-read}
 use borrow.Author.Needs.{needs}
 use Rattle.recipe.proofs.reading.read.Statement.{statement}
 use Rattle.recipe.proofs.reading.read.Tie as tie
@@ -60,6 +61,4 @@ returns-2 c =
     fills (over all (s .out .now)) (s .out .now) e (t .if1 .left) (d .decode .ensures ∙ f)
 
 pub read-spec : {M : Type 1} → statement M
-read-spec =
-    tie.close
-    (tie.spec scan-requires read-answer-requires returns decode-requires same-length returns-2)
+read-spec = tie.close (tie.spec scan-requires read-answer-requires returns decode-requires same-length returns-2)

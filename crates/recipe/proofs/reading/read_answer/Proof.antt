@@ -28,11 +28,4 @@ returns c =
 
 pub read-answer-spec : {M : Type 1} → statement M
 read-answer-spec =
-    tie.close
-    (tie.spec
-    spelling-requires
-    check-numbers-requires
-    fitting-requires
-    or-else-requires
-    or-else-requires-2
-    returns)
+    tie.close (tie.spec spelling-requires check-numbers-requires fitting-requires or-else-requires or-else-requires-2 returns)

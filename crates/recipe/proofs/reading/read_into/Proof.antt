@@ -39,12 +39,4 @@ returns c =
 
 pub read-into-spec : {M : Type 1} → statement M
 read-into-spec =
-    tie.close
-    (tie.spec
-    read-number-requires
-    value-of-requires
-    mul-t7
-    slice-set-from-out
-    add-result
-    same-length
-    returns)
+    tie.close (tie.spec read-number-requires value-of-requires mul-t7 slice-set-from-out add-result same-length returns)

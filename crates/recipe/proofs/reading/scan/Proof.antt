@@ -4,7 +4,7 @@ use mathlib.Core.Path.{_≡_, subst}
 use Prim.Native.Nat.{ℕ, _-_, _≤_}
 use native.Mathlib.Omega.{arith}
 use lib.ListN.{length}
-use Rattle.recipe.specs.Reading.{Scanned, Ends, scan-none, scan-on, scan-stop, scan-end, inside-by}
+use Rattle.recipe.specs.Reading.{Scanned, NumbersEnd, scan-none, scan-on, scan-stop, scan-end, inside-by}
 use Rattle.recipe.proofs.reading.scan.Statement.{statement}
 use Rattle.recipe.proofs.reading.scan.Tie as tie
 
@@ -49,19 +49,8 @@ returns-2 c =
     let l = c .before .loop in
     let b = c .before .before .before .args .bytes .now in
     let e : l .k ≡ length b = omega arith in
-    subst (λ (n : ℕ). Ends b (l .i) n) e (scan-end (omega arith) (l .inv .1))
+    subst (λ (n : ℕ). NumbersEnd b (l .i) n) e (scan-end (omega arith) (l .inv .1))
 
 pub scan-spec : {M : Type 1} → statement M
 scan-spec =
-    tie.close
-    (tie.spec
-    Inv-loop
-    μ-loop
-    loop-holds
-    read-number-requires
-    returns
-    add-i
-    add-k
-    loop-less
-    loop-again
-    returns-2)
+    tie.close (tie.spec Inv-loop μ-loop loop-holds read-number-requires returns add-i add-k loop-less loop-again returns-2)

@@ -3,7 +3,8 @@ use mathlib.Core.Path.{sym, ap, _∙_}
 use lib.ListN.{length}
 use Rattle.rules.specs.declared.Answer.{Answer}
 use Rattle.rules.specs.Calls.{over, builtIn, writeTable}
-use Rattle.recipe.specs.Calls.{keeps, fills, fitting-fine}
+use Rattle.laws.specs.AnswersInTurn.{keeps, fills}
+use Rattle.recipe.specs.Calls.{fitting-fine}
 use borrow.Author.Needs.{needs}
 use Rattle.recipe.proofs.table.built_in.Statement.{statement}
 use Rattle.recipe.proofs.table.built_in.Tie as tie
@@ -38,5 +39,4 @@ returns-2 c =
     fills (over builtIn out) out (f .fitting .ensures) (t .if1 .left) (d .copy-table .ensures)
 
 pub built-in-spec : {M : Type 1} → statement M
-built-in-spec =
-    tie.close (tie.spec fitting-requires returns copy-table-requires same-length returns-2)
+built-in-spec = tie.close (tie.spec fitting-requires returns copy-table-requires same-length returns-2)

@@ -60,15 +60,4 @@ returns c =
 pub copy-table-spec : {M : Type 1} → statement M
 copy-table-spec =
     tie.close
-    (tie.spec
-    Inv-loop
-    μ-loop
-    loop-holds
-    entry-requires
-    mul-t5
-    slice-set-from-out
-    add-k
-    loop-less
-    loop-again
-    same-length
-    returns)
+    (tie.spec Inv-loop μ-loop loop-holds entry-requires mul-t5 slice-set-from-out add-k loop-less loop-again same-length returns)

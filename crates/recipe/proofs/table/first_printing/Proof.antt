@@ -11,7 +11,9 @@ same-length : tie.Need-same-length
 same-length c = search needs
 
 returns : tie.Need-returns
-returns c = let b = c .before .before .before in printing-refused (b .before .before .args .out .now) (b .built-in .ensures) (c .if1 .taken)
+returns c =
+    let b = c .before .before .before in
+    printing-refused (b .before .before .args .out .now) (b .built-in .ensures) (c .if1 .taken)
 
 array-copy-out-out : tie.Need-array-copy-out-out
 array-copy-out-out c = search needs
@@ -20,23 +22,19 @@ sub-out : tie.Need-sub-out
 sub-out c = search needs
 
 slice-set-from-out : tie.Need-slice-set-from-out
-slice-set-from-out c = let b = c .before .before .before .before in printing-room (b .before .before .args .out .now) (b .built-in .ensures) (c .before .if1 .left)
+slice-set-from-out c =
+    let b = c .before .before .before .before in
+    printing-room (b .before .before .args .out .now) (b .built-in .ensures) (c .before .if1 .left)
 
 same-length-2 : tie.Need-same-length-2
 same-length-2 c = search needs
 
 returns-2 : tie.Need-returns-2
-returns-2 c = let b = c .before .before .before .before in printing-filled (b .before .before .args .out .now) (b .built-in .ensures) (c .before .if1 .left)
+returns-2 c =
+    let b = c .before .before .before .before in
+    printing-filled (b .before .before .args .out .now) (b .built-in .ensures) (c .before .if1 .left)
 
 pub first-printing-spec : {M : Type 1} → statement M
 first-printing-spec =
     tie.close
-    (tie.spec
-    built-in-requires
-    same-length
-    returns
-    array-copy-out-out
-    sub-out
-    slice-set-from-out
-    same-length-2
-    returns-2)
+    (tie.spec built-in-requires same-length returns array-copy-out-out sub-out slice-set-from-out same-length-2 returns-2)

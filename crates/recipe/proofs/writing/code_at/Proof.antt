@@ -18,5 +18,4 @@ returns : tie.Need-returns
 returns c = rw (toZ-ofZ {w = w32} (record { sfits = c .before .code-of-arg .given })) at (c .code-of .ensures)
 
 pub code-at-spec : {M : Type 1} → statement M
-code-at-spec =
-    tie.close (tie.spec mul-code-of shared-slice-copy-out-code-of code-of-requires returns)
+code-at-spec = tie.close (tie.spec mul-code-of shared-slice-copy-out-code-of code-of-requires returns)

@@ -49,14 +49,4 @@ returns c = encode-end (c .before .before .before .pre .1) (c .before .loop .inv
 pub encode-spec : {M : Type 1} → statement M
 encode-spec =
     tie.close
-    (tie.spec
-    Inv-loop
-    μ-loop
-    loop-holds
-    code-at-requires
-    write-code-requires
-    add-k
-    loop-less
-    loop-again
-    same-length
-    returns)
+    (tie.spec Inv-loop μ-loop loop-holds code-at-requires write-code-requires add-k loop-less loop-again same-length returns)

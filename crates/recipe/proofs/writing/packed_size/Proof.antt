@@ -44,14 +44,4 @@ returns c = size-end (omega arith) (c .before .loop .inv .1)
 pub packed-size-spec : {M : Type 1} → statement M
 packed-size-spec =
     tie.close
-    (tie.spec
-    Inv-loop
-    μ-loop
-    loop-holds
-    code-at-requires
-    code-size-requires
-    add-total
-    add-k
-    loop-less
-    loop-again
-    returns)
+    (tie.spec Inv-loop μ-loop loop-holds code-at-requires code-size-requires add-total add-k loop-less loop-again returns)

@@ -3,7 +3,8 @@ use mathlib.Core.Path.{sym, ap, _∙_}
 use Rattle.rules.specs.declared.Answer.{Answer}
 use Rattle.rules.specs.Recipes.{packed}
 use Rattle.rules.specs.Calls.{reply, over, write}
-use Rattle.recipe.specs.Calls.{keeps, fills, wrote}
+use Rattle.laws.specs.AnswersInTurn.{keeps, fills}
+use Rattle.recipe.specs.Calls.{wrote}
 use Rattle.recipe.specs.Trips.{accepted-codables}
 use borrow.Author.Needs.{needs}
 use Rattle.recipe.proofs.writing.write.Statement.{statement}
@@ -43,5 +44,4 @@ returns-2 c =
     fills new (s .out .now) (r .write-answer .ensures) (t .if1 .left) (d .encode .ensures)
 
 pub write-spec : {M : Type 1} → statement M
-write-spec =
-    tie.close (tie.spec write-answer-requires returns encode-requires same-length returns-2)
+write-spec = tie.close (tie.spec write-answer-requires returns encode-requires same-length returns-2)

@@ -23,6 +23,4 @@ returns c =
     c .or-else .ensures ∙ rw (f .fitting .ensures, p .packed-size .ensures, p .before .check .ensures)
 
 pub write-answer-spec : {M : Type 1} → statement M
-write-answer-spec =
-    tie.close
-    (tie.spec check-requires packed-size-requires fitting-requires or-else-requires returns)
+write-answer-spec = tie.close (tie.spec check-requires packed-size-requires fitting-requires or-else-requires returns)

@@ -3,17 +3,16 @@ use mathlib.Core.Path.{_≡_}
 use Prim.Native.Nat.{_-_, _≤_}
 use native.Mathlib.Nat.{mul-le-mul-right}
 use native.Mathlib.Omega.{arith}
-use Rattle.factor.specs.Lies.{placeAt}
-use Rattle.factor.specs.Spreads.{toOf, fromOf}
-use Rattle.rectangle.specs.Moves.{MovedLines, no-line, next-line}
+use Rattle.factor.specs.Tasks.{isInverse}
+use Rattle.rectangle.specs.Moves.{MovedBySheet, no-line, next-line}
 use Rattle.rectangle.proofs.moves.move_lines.Statement.{statement}
 use Rattle.rectangle.proofs.moves.move_lines.Tie as tie
 
 abbrev Inv-loop : tie.InvT-loop
-Inv-loop sheet f back many w s x₀ l₀ x l = (l ≤ many) × MovedLines l (f .order) w s (toOf back (placeAt sheet f)) (fromOf back (placeAt sheet f)) x₀ x
+Inv-loop sheet f task many w s x₀ l₀ x l = (l ≤ many) × MovedBySheet sheet f (isInverse task) l w s x₀ x
 
 abbrev μ-loop : tie.MeasureT-loop
-μ-loop sheet f back many w s x₀ l₀ x l = many - l
+μ-loop sheet f task many w s x₀ l₀ x l = many - l
 
 loop-holds : tie.Need-loop-holds Inv-loop μ-loop
 loop-holds c = (omega arith, no-line)
@@ -40,7 +39,9 @@ loop-again c =
     let a = c .before in
     let l = a .before .before .before in
     let s = l .before in
-    (omega arith, next-line (s .args .back) (l .loop .l) (s .pre .1) (s .pre .0 .permutes) (a .before .before .loop-test .taken) (l .loop .inv .1) (a .move-line .ensures))
+    let b = isInverse (s .args .task) in
+    let t = a .before .before .loop-test .taken in
+    (omega arith, next-line b (l .loop .l) (s .pre .1) (s .pre .0 .permutes) t (l .loop .inv .1) (a .move-line .ensures))
 
 same-length : tie.Need-same-length Inv-loop μ-loop
 same-length c = c .before .loop .inv .1 .long
@@ -51,14 +52,4 @@ returns c = let e : c .before .loop .l ≡ c .before .before .args .many = omega
 pub move-lines-spec : {M : Type 1} → statement M
 move-lines-spec =
     tie.close
-    (tie.spec
-    Inv-loop
-    μ-loop
-    loop-holds
-    mul-move-line
-    move-line-requires
-    add-l
-    loop-less
-    loop-again
-    same-length
-    returns)
+    (tie.spec Inv-loop μ-loop loop-holds mul-move-line move-line-requires add-l loop-less loop-again same-length returns)

@@ -1,5 +1,6 @@
 -- The rows and then the columns take every number where the pair of permutations says (`pair-moved`).
 use native.Mathlib.Omega.{arith}
+use Rattle.factor.specs.Tasks.{isInverse}
 use Rattle.rectangle.specs.Moves.{sourceOf, few, rows, columns, pair-moved}
 use Rattle.rectangle.proofs.moves.move_pair.Statement.{statement}
 use Rattle.rectangle.proofs.moves.move_pair.Tie as tie
@@ -19,8 +20,9 @@ unfolding sourceOf
 returns c =
     let r = c .before .before in
     let s = r .before .before in
-    pair-moved (s .args .back) (s .args .fa .order) (s .args .fb .order) (s .pre .0 .permutes) (s .pre .1 .permutes)
-    (omega (arith, few (s .pre .0) (s .pre .1), r .before .move-lines-arg .given .0)) (r .move-lines .ensures) (c .move-lines2 .ensures)
+    pair-moved (isInverse (s .args .task)) (s .args .fa .order) (s .args .fb .order) (s .pre .0 .permutes) (s .pre .1 .permutes)
+    (omega (arith, few (s .pre .0) (s .pre .1), r .before .move-lines-arg .given .0)) (r .move-lines .ensures)
+    (c .move-lines2 .ensures)
 
 pub move-pair-spec : {M : Type 1} → statement M
 move-pair-spec = tie.close (tie.spec move-lines-requires move-lines-requires-2 returns)

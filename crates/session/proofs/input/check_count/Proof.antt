@@ -15,7 +15,8 @@ use Rattle.session.proofs.input.check_count.Tie as tie
 natural : (c : tie.Else1) → T (nonNeg (at (c .before .before .args .v .now) 0))
 natural c =
     let f = c .before .first in
-    nonNeg-yes (at (c .before .before .args .v .now) 0) (rw (toZ-ofZ {w = w32} (record { sfits = f .ok }), f .ensures) at (c .if1 .left))
+    nonNeg-yes (at (c .before .before .args .v .now) 0)
+    (rw (toZ-ofZ {w = w32} (record { sfits = f .ok }), f .ensures) at (c .if1 .left))
 
 first-requires : tie.Need-first-requires
 first-requires c κs = search needs
@@ -53,12 +54,4 @@ returns-3 c =
 pub check-count-spec : {M : Type 1} → statement M
 check-count-spec =
     tie.close
-    (tie.spec
-    first-requires
-    refused-requires
-    returns
-    block-at-requires
-    refused-requires-2
-    returns-2
-    accepted-requires
-    returns-3)
+    (tie.spec first-requires refused-requires returns block-at-requires refused-requires-2 returns-2 accepted-requires returns-3)

@@ -5,7 +5,6 @@ use lib.IntN.{pos}
 use lib.Signed.{ltZ}
 use mathlib.Core.Bool.{true, false}
 use mir.Facts.{toZ-ofZ}
-use Rattle.session.specs.Program.{digits}
 use Rattle.session.specs.Digits.{decimal-below, decimal-above}
 use borrow.Author.Needs.{needs}
 use Rattle.session.proofs.text.put_decimal.Statement.{statement}
@@ -55,12 +54,4 @@ returns-2 c =
 pub put-decimal-spec : {M : Type 1} → statement M
 put-decimal-spec =
     tie.close
-    (tie.spec
-    size-requires
-    put-requires
-    put-digits-requires
-    same-length
-    returns
-    put-digits-requires-2
-    same-length-2
-    returns-2)
+    (tie.spec size-requires put-requires put-digits-requires same-length returns put-digits-requires-2 same-length-2 returns-2)

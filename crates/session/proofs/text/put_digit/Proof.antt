@@ -14,7 +14,8 @@ returns : tie.Need-returns
 returns c =
     let r = c .before in
     let s = r .before .before in
-    wrote-as (wrote-none (s .args .out .now) (s .args .i) (s .pre .0)) (sym (digit-none (s .args .p) (s .args .n) (omega (arith, r .reach .ensures))))
+    wrote-as (wrote-none (s .args .out .now) (s .args .i) (s .pre .0))
+    (sym (digit-none (s .args .p) (s .args .n) (omega (arith, r .reach .ensures))))
 
 div-put : tie.Need-div-put
 div-put c = search needs
@@ -39,6 +40,4 @@ returns-2 c =
     wrote-as (p .put .ensures) (sym (digit-one (s .p) (s .n) (omega (arith, r .reach .ensures))))
 
 pub put-digit-spec : {M : Type 1} → statement M
-put-digit-spec =
-    tie.close
-    (tie.spec reach-requires returns div-put add-put cast-put put-requires same-length returns-2)
+put-digit-spec = tie.close (tie.spec reach-requires returns div-put add-put cast-put put-requires same-length returns-2)

@@ -39,8 +39,12 @@ loop-again : tie.Need-loop-again Inv-loop μ-loop
 loop-again c =
     let d = c .before .before in
     let l = d .before .before .before .before .loop in
-    let s = d .before .before .before .before .before .before .args in
-    (omega arith, wrote-as (wrote-then (l .inv .1) (d .put-digit .ensures)) (ap (λ (p : ℕ). digits (l .t) (s .n) ++ digitAt p (s .n)) (d .before .power .ensures) ∙ sym (digits-next (l .t) (s .n))))
+    let s = d .before .before .before .before .before .before .args in (
+      omega arith,
+      wrote-as (wrote-then (l .inv .1) (d .put-digit .ensures))
+          (ap (λ (p : ℕ). digits (l .t) (s .n) ++ digitAt p (s .n)) (d .before .power .ensures)
+          ∙ sym (digits-next (l .t) (s .n))),
+    )
 
 same-length : tie.Need-same-length Inv-loop μ-loop
 same-length c = wrote-long (c .before .loop .inv .1)
@@ -55,14 +59,4 @@ returns c =
 pub put-digits-spec : {M : Type 1} → statement M
 put-digits-spec =
     tie.close
-    (tie.spec
-    Inv-loop
-    μ-loop
-    loop-holds
-    power-requires
-    put-digit-requires
-    add-t
-    loop-less
-    loop-again
-    same-length
-    returns)
+    (tie.spec Inv-loop μ-loop loop-holds power-requires put-digit-requires add-t loop-less loop-again same-length returns)

@@ -23,8 +23,8 @@ returns c =
     let v = p .before .before .before .before in
     let w = v .before .before .before .before in
     let s = w .before .before .before .before .args in
-    wrote-as (wrote-then (w .put-word .ensures) (wrote-then (v .put-numbers .ensures) (p .put .ensures))) (line-is (s .word .now) (s .v .now))
+    wrote-as (wrote-then (w .put-word .ensures) (wrote-then (v .put-numbers .ensures) (p .put .ensures)))
+    (line-is (s .word .now) (s .v .now))
 
 pub put-line-spec : {M : Type 1} → statement M
-put-line-spec =
-    tie.close (tie.spec put-word-requires put-numbers-requires put-requires same-length returns)
+put-line-spec = tie.close (tie.spec put-word-requires put-numbers-requires put-requires same-length returns)

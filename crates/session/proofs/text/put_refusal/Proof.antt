@@ -49,14 +49,5 @@ returns c =
 pub put-refusal-spec : {M : Type 1} → statement M
 put-refusal-spec =
     tie.close
-    (tie.spec
-    slice-aggregate-put-word
-    put-word-requires
-    cast-put-count
-    put-count-requires
-    cast-put-count-2
-    put-count-requires-2
-    put-count-requires-3
-    put-requires
-    same-length
-    returns)
+    (tie.spec slice-aggregate-put-word put-word-requires cast-put-count put-count-requires cast-put-count-2 put-count-requires-2
+    put-count-requires-3 put-requires same-length returns)

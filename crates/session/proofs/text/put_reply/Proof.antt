@@ -33,6 +33,4 @@ returns-2 c =
     wrote-as (p .put-line .ensures) (sym (replied-numbers (s .word .now) (s .a) (s .v .now) (t .if1 .left)))
 
 pub put-reply-spec : {M : Type 1} → statement M
-put-reply-spec =
-    tie.close
-    (tie.spec put-refusal-requires same-length returns put-line-requires same-length-2 returns-2)
+put-reply-spec = tie.close (tie.spec put-refusal-requires same-length returns put-line-requires same-length-2 returns-2)

@@ -37,8 +37,11 @@ loop-again : tie.Need-loop-again Inv-loop μ-loop
 loop-again c =
     let d = c .before .before in
     let t = d .before .before .before .before in
-    let s = t .before .before .before .args in
-    (omega arith, wrote-as (wrote-then (t .loop .inv .1) (d .put .ensures)) (sym (word-next (s .word .now) (t .loop .k) (omega arith))))
+    let s = t .before .before .before .args in (
+      omega arith,
+      wrote-as (wrote-then (t .loop .inv .1) (d .put .ensures))
+          (sym (word-next (s .word .now) (t .loop .k) (omega arith))),
+    )
 
 same-length : tie.Need-same-length Inv-loop μ-loop
 same-length c = wrote-long (c .before .loop .inv .1)
@@ -53,14 +56,4 @@ returns c =
 pub put-word-spec : {M : Type 1} → statement M
 put-word-spec =
     tie.close
-    (tie.spec
-    Inv-loop
-    μ-loop
-    loop-holds
-    shared-slice-read-put
-    put-requires
-    add-k
-    loop-less
-    loop-again
-    same-length
-    returns)
+    (tie.spec Inv-loop μ-loop loop-holds shared-slice-read-put put-requires add-k loop-less loop-again same-length returns)

@@ -46,5 +46,4 @@ returns-2 : tie.Need-returns-2
 returns-2 c = search needs
 
 pub size-spec : {M : Type 1} → statement M
-size-spec =
-    tie.close (tie.spec below-requires cast-result add-result returns cast-result-2 returns-2)
+size-spec = tie.close (tie.spec below-requires cast-result add-result returns cast-result-2 returns-2)

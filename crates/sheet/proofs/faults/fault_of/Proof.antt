@@ -96,28 +96,7 @@ returns-7 c =
 pub fault-of-spec : {M : Type 1} → statement M
 fault-of-spec =
     tie.close
-    (tie.spec
-    mul-z
-    shared-slice-copy-out-z
-    enum-told
-    fault-beyond-requires
-    returns
-    enum-told-2
-    fault-beyond-requires-2
-    returns-2
-    enum-told-3
-    fault-beyond-requires-3
-    returns-3
-    enum-known-what
-    row-fault-requires
-    returns-4
-    enum-known-what-2
-    place-fault-requires
-    returns-5
-    enum-told-4
-    sign-fault-requires
-    returns-6
-    enum-told-5
-    sub-fault-beyond
-    fault-beyond-requires-4
+    (tie.spec mul-z shared-slice-copy-out-z enum-told fault-beyond-requires returns enum-told-2 fault-beyond-requires-2 returns-2
+    enum-told-3 fault-beyond-requires-3 returns-3 enum-known-what row-fault-requires returns-4 enum-known-what-2
+    place-fault-requires returns-5 enum-told-4 sign-fault-requires returns-6 enum-told-5 sub-fault-beyond fault-beyond-requires-4
     returns-7)

@@ -26,10 +26,4 @@ returns c =
 pub is-same-at-spec : {M : Type 1} → statement M
 is-same-at-spec =
     tie.close
-    (tie.spec
-    mul-is-same
-    shared-slice-copy-out-is-same
-    mul-is-same-2
-    shared-slice-copy-out-is-same-2
-    is-same-requires
-    returns)
+    (tie.spec mul-is-same shared-slice-copy-out-is-same mul-is-same-2 shared-slice-copy-out-is-same-2 is-same-requires returns)

@@ -48,15 +48,4 @@ returns-2 c =
     sym (l .inv ∙ among-none (a .sheet .now) (at (a .sheet .now) (a .i)) (l .k) (a .i) (omega arith))
 
 pub is-used-spec : {M : Type 1} → statement M
-is-used-spec =
-    tie.close
-    (tie.spec
-    Inv-loop
-    μ-loop
-    loop-holds
-    is-same-at-requires
-    returns
-    add-k
-    loop-less
-    loop-again
-    returns-2)
+is-used-spec = tie.close (tie.spec Inv-loop μ-loop loop-holds is-same-at-requires returns add-k loop-less loop-again returns-2)

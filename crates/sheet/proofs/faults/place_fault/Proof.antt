@@ -47,11 +47,4 @@ returns-3 c =
 pub place-fault-spec : {M : Type 1} → statement M
 place-fault-spec =
     tie.close
-    (tie.spec
-    mul-is-below
-    shared-slice-copy-out-is-below
-    is-below-requires
-    returns
-    is-used-requires
-    returns-2
-    returns-3)
+    (tie.spec mul-is-below shared-slice-copy-out-is-below is-below-requires returns is-used-requires returns-2 returns-3)

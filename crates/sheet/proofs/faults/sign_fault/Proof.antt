@@ -35,5 +35,4 @@ returns-3 c =
     rw (one, same-of (negsuc 0) f (c .before .is-same2 .ensures) (c .if2 .left))
 
 pub sign-fault-spec : {M : Type 1} → statement M
-sign-fault-spec =
-    tie.close (tie.spec is-same-requires returns is-same-requires-2 returns-2 returns-3)
+sign-fault-spec = tie.close (tie.spec is-same-requires returns is-same-requires-2 returns-2 returns-3)

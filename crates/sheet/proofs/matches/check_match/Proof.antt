@@ -62,14 +62,5 @@ returns-3 c =
 pub check-match-spec : {M : Type 1} → statement M
 check-match-spec =
     tie.close
-    (tie.spec
-    count-at-requires
-    count-at-requires-2
-    smaller-requires
-    first-clash-requires
-    refused-requires
-    returns
-    refused-requires-2
-    returns-2
-    accepted-requires
-    returns-3)
+    (tie.spec count-at-requires count-at-requires-2 smaller-requires first-clash-requires refused-requires returns
+    refused-requires-2 returns-2 accepted-requires returns-3)

@@ -99,18 +99,5 @@ returns-2 c =
 pub first-clash-spec : {M : Type 1} → statement M
 first-clash-spec =
     tie.close
-    (tie.spec
-    Inv-loop
-    μ-loop
-    count-at-requires
-    count-at-requires-2
-    loop-holds
-    count-at-requires-3
-    count-at-requires-4
-    returns
-    next-factor-requires
-    next-factor-requires-2
-    add-f
-    loop-less
-    loop-again
-    returns-2)
+    (tie.spec Inv-loop μ-loop count-at-requires count-at-requires-2 loop-holds count-at-requires-3 count-at-requires-4 returns
+    next-factor-requires next-factor-requires-2 add-f loop-less loop-again returns-2)

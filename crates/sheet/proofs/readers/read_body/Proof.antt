@@ -54,18 +54,5 @@ returns-4 c = rw (c .before .enum-told4 .given .1) (c .read-single .ensures)
 pub read-body-spec : {M : Type 1} → statement M
 read-body-spec =
     tie.close
-    (tie.spec
-    enum-told
-    read-many-requires
-    returns
-    enum-told-2
-    triangle-of-requires
-    read-weights-requires
-    returns-2
-    enum-told-3
-    triangle-of-requires-2
-    read-weights-requires-2
-    returns-3
-    enum-told-4
-    read-single-requires
-    returns-4)
+    (tie.spec enum-told read-many-requires returns enum-told-2 triangle-of-requires read-weights-requires returns-2 enum-told-3
+    triangle-of-requires-2 read-weights-requires-2 returns-3 enum-told-4 read-single-requires returns-4)

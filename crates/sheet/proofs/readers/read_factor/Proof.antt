@@ -25,5 +25,4 @@ returns-2 c =
     goes _ (d .before .before .read-one .ensures) (d .if1 .left) (rw (c .before .kind-at .ensures) at (c .read-body .ensures))
 
 pub read-factor-spec : {M : Type 1} → statement M
-read-factor-spec =
-    tie.close (tie.spec read-one-requires returns kind-at-requires read-body-requires returns-2)
+read-factor-spec = tie.close (tie.spec read-one-requires returns kind-at-requires read-body-requires returns-2)

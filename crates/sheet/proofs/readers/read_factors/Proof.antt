@@ -48,14 +48,4 @@ returns-2 c =
 
 pub read-factors-spec : {M : Type 1} → statement M
 read-factors-spec =
-    tie.close
-    (tie.spec
-    Inv-loop
-    μ-loop
-    loop-holds
-    read-factor-requires
-    returns
-    add-k
-    loop-less
-    loop-again
-    returns-2)
+    tie.close (tie.spec Inv-loop μ-loop loop-holds read-factor-requires returns add-k loop-less loop-again returns-2)

@@ -47,15 +47,4 @@ returns-2 c =
     sym (l .inv ∙ times-none (a .m) (l .k) (one (a .sheet .now) (a .what)) (l .i) (omega arith))
 
 pub read-many-spec : {M : Type 1} → statement M
-read-many-spec =
-    tie.close
-    (tie.spec
-    Inv-loop
-    μ-loop
-    loop-holds
-    read-one-requires
-    returns
-    add-k
-    loop-less
-    loop-again
-    returns-2)
+read-many-spec = tie.close (tie.spec Inv-loop μ-loop loop-holds read-one-requires returns add-k loop-less loop-again returns-2)

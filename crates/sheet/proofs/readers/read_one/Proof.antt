@@ -29,11 +29,4 @@ returns-3 c =
     rw (lt-ltb _ _ (d .before .if1 .left), sym (d .fault-of .ensures), eq-eqb _ 0 (c .if2 .left))
 
 pub read-one-spec : {M : Type 1} → statement M
-read-one-spec =
-    tie.close
-    (tie.spec
-    returns
-    fault-of-requires
-    returns-2
-    add-next
-    returns-3)
+read-one-spec = tie.close (tie.spec returns fault-of-requires returns-2 add-next returns-3)

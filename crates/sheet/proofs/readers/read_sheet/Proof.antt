@@ -59,12 +59,5 @@ returns-3 c =
 pub read-sheet-spec : {M : Type 1} → statement M
 read-sheet-spec =
     tie.close
-    (tie.spec
-    read-head-requires
-    returns
-    count-at-requires
-    count-at-requires-2
-    read-factors-requires
-    returns-2
-    read-end-requires
+    (tie.spec read-head-requires returns count-at-requires count-at-requires-2 read-factors-requires returns-2 read-end-requires
     returns-3)

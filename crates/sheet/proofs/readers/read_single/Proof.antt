@@ -20,5 +20,4 @@ returns-2 : tie.Need-returns-2
 returns-2 c = goes _ (c .before .before .before .read-one .ensures) (c .before .if1 .left) (c .read-weights .ensures)
 
 pub read-single-spec : {M : Type 1} → statement M
-read-single-spec =
-    tie.close (tie.spec read-one-requires returns sub-read-weights read-weights-requires returns-2)
+read-single-spec = tie.close (tie.spec read-one-requires returns sub-read-weights read-weights-requires returns-2)

@@ -26,5 +26,4 @@ unfolding planOf joint
 returns-2 c = rw (c .before .enum-told2 .given .1) (c .check-pair .ensures)
 
 pub check-sheets-spec : {M : Type 1} → statement M
-check-sheets-spec =
-    tie.close (tie.spec enum-told check-requires returns enum-told-2 check-pair-requires returns-2)
+check-sheets-spec = tie.close (tie.spec enum-told check-requires returns enum-told-2 check-pair-requires returns-2)

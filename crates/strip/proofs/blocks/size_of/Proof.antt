@@ -39,7 +39,9 @@ count-at-requires-3 : tie.Need-count-at-requires-3
 count-at-requires-3 c κs = order-counts (matched _ _ (two (c .before)) .row)
 
 mul-result : tie.Need-mul-result
-mul-result c = let h = size-most (matched _ _ (two (c .before .before))) in rw (c .before .count-at2 .ensures, c .count-at3 .ensures) (omega arith)
+mul-result c =
+    let h = size-most (matched _ _ (two (c .before .before))) in
+    rw (c .before .count-at2 .ensures, c .count-at3 .ensures) (omega arith)
 
 returns-2 : tie.Need-returns-2
 unfolding planOf joint
@@ -48,12 +50,4 @@ returns-2 c = rw (c .before .before .enum-told2 .given .1, c .before .count-at2 
 pub size-of-spec : {M : Type 1} → statement M
 size-of-spec =
     tie.close
-    (tie.spec
-    enum-told
-    count-at-requires
-    returns
-    enum-told-2
-    count-at-requires-2
-    count-at-requires-3
-    mul-result
-    returns-2)
+    (tie.spec enum-told count-at-requires returns enum-told-2 count-at-requires-2 count-at-requires-3 mul-result returns-2)

@@ -6,7 +6,8 @@ use Rattle.rules.specs.declared.Answer.{Answer}
 use Rattle.rules.specs.Calls.{Reply, Plan}
 use Rattle.rules.specs.Strips.{stripAnswer}
 use Rattle.laws.specs.Strips.{StripFits, strip-fits}
-use Rattle.strip.specs.Plans.{planOf, callOf, some-numbers}
+use Rattle.factor.specs.Tasks.{callOf}
+use Rattle.strip.specs.Plans.{planOf, some-numbers}
 use Rattle.strip.specs.Lengths.{sheets-first, lengths-then, strip-stops, strip-goes}
 use borrow.Author.Needs.{needs}
 use Rattle.strip.proofs.runs.run_strip.Statement.{statement}
@@ -16,7 +17,7 @@ abbrev plan : tie.Start → Plan
 plan s = planOf (s .args .shape) (s .args .col .now) (s .args .row .now)
 
 abbrev single : tie.Start → List ℤ → List ℤ → Reply ℤ
-single s = callOf (s .args .direction) (plan s)
+single s = callOf (s .args .run) (plan s)
 
 -- the sheets were checked
 fine : (c : tie.Else1) → plan (c .before .before .before .before) .sheets .number ≡ 0
@@ -29,7 +30,8 @@ answer :
     c .check-strip .result ≡ stripAnswer (plan s) (s .args .x .now) (s .args .y .now) (s .args .bytes .now)
 answer c =
     let s = c .before .before .before .before .before .before in
-    lengths-then (plan s) (s .args .x .now) (s .args .y .now) (s .args .bytes .now) (fine (c .before .before)) (rw (c .before .size-of .ensures) at (c .check-strip .ensures))
+    lengths-then (plan s) (s .args .x .now) (s .args .y .now) (s .args .bytes .now) (fine (c .before .before))
+    (rw (c .before .size-of .ensures) at (c .check-strip .ensures))
 
 -- and if it is accepted, the lengths fit
 fits :
@@ -39,7 +41,8 @@ fits :
 fits c =
     let k = c .before .before in
     let s = k .before .before .before .before .before .before in
-    strip-fits (plan s) (s .args .x .now) (s .args .y .now) (s .args .bytes .now) (ap (λ (a : Answer). a .number) (sym (answer k)) ∙ c .if2 .left)
+    strip-fits (plan s) (s .args .x .now) (s .args .y .now) (s .args .bytes .now)
+    (ap (λ (a : Answer). a .number) (sym (answer k)) ∙ c .if2 .left)
 
 check-sheets-requires : tie.Need-check-sheets-requires
 check-sheets-requires c κs = search needs
@@ -49,7 +52,8 @@ returns c =
     let a = c .before .before in
     let s = a .before .before in
     strip-stops (plan s) (s .args .x .now) (s .args .y .now) (s .args .bytes .now) (single s)
-    (sheets-first (plan s) (s .args .x .now) (s .args .y .now) (s .args .bytes .now) (a .check-sheets .ensures) (c .if1 .taken)) (c .if1 .taken)
+    (sheets-first (plan s) (s .args .x .now) (s .args .y .now) (s .args .bytes .now) (a .check-sheets .ensures) (c .if1 .taken))
+    (c .if1 .taken)
 
 size-of-requires : tie.Need-size-of-requires
 size-of-requires c κs = fine c
@@ -67,8 +71,13 @@ run-blocks-requires : tie.Need-run-blocks-requires
 run-blocks-requires c κs =
     let e = c .before .before in
     let z = e .before .before .before in
-    let f = fits e in
-    (f .sheets, z .size-of .ensures, rw (z .size-of .ensures) (f .input), rw (z .size-of .ensures) (f .output))
+    let f = fits e in (
+      e .before .before .before .before .before .before .before .before .pre,
+      f .sheets,
+      z .size-of .ensures,
+      rw (z .size-of .ensures) (f .input),
+      rw (z .size-of .ensures) (f .output),
+    )
 
 same-length : tie.Need-same-length
 same-length c = search needs
@@ -82,18 +91,11 @@ returns-3 c =
     let e = r .before .before .before in
     let k = e .before .before in
     let s = k .before .before .before .before .before .before in
-    strip-goes (plan s) (s .args .x .now) (s .args .y .now) (s .args .bytes .now) (single s) (answer k) (e .if2 .left) (r .run-blocks .ensures)
+    strip-goes (plan s) (s .args .x .now) (s .args .y .now) (s .args .bytes .now) (single s) (answer k) (e .if2 .left)
+    (r .run-blocks .ensures)
 
 pub run-strip-spec : {M : Type 1} → statement M
 run-strip-spec =
     tie.close
-    (tie.spec
-    check-sheets-requires
-    returns
-    size-of-requires
-    check-strip-requires
-    returns-2
-    run-blocks-requires
-    same-length
-    same-length-2
-    returns-3)
+    (tie.spec check-sheets-requires returns size-of-requires check-strip-requires returns-2 run-blocks-requires same-length
+    same-length-2 returns-3)

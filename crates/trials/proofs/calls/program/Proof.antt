@@ -45,16 +45,5 @@ returns-2 c = search needs
 pub program-spec : {M : Type 1} → statement M
 program-spec =
     tie.close
-    (tie.spec
-    unknown-requires
-    returns
-    load-bytes-requires
-    blank-text-requires
-    array-share-prefix-bytes
-    slice-aggregate-text-of
-    slice-aggregate-text-of-2
-    text-of-requires
-    store-bytes-requires
-    counted-requires
-    same-length
-    returns-2)
+    (tie.spec unknown-requires returns load-bytes-requires blank-text-requires array-share-prefix-bytes slice-aggregate-text-of
+    slice-aggregate-text-of-2 text-of-requires store-bytes-requires counted-requires same-length returns-2)

@@ -33,12 +33,5 @@ returns-2 c = search needs
 pub read-spec : {M : Type 1} → statement M
 read-spec =
     tie.close
-    (tie.spec
-    unknown-requires
-    returns
-    load-bytes-requires
-    array-share-prefix-bytes
-    slice-aggregate-read
-    read-requires
-    same-length
-    returns-2)
+    (tie.spec unknown-requires returns load-bytes-requires array-share-prefix-bytes slice-aggregate-read read-requires
+    same-length returns-2)

@@ -86,29 +86,7 @@ returns-4 c = search needs
 pub strip-spec : {M : Type 1} → statement M
 strip-spec =
     tie.close
-    (tie.spec
-    unknown-requires
-    returns
-    shared-slice-copy-out-natural
-    natural-requires
-    unknown-requires-2
-    returns-2
-    unknown-requires-3
-    returns-3
-    sub-n
-    mul-load-bytes
-    sub-load-bytes
-    part-load-bytes-start
-    part-load-bytes-end
-    load-bytes-requires
-    sub-strip-by
-    part-strip-by-start
-    part-strip-by-end
-    slice-relend-prefix-strip-by
-    slice-aggregate-strip-by
-    array-borrow-prefix-bytes
-    slice-aggregate-strip-by-2
-    strip-by-requires
-    store-bytes-requires
-    same-length
-    returns-4)
+    (tie.spec unknown-requires returns shared-slice-copy-out-natural natural-requires unknown-requires-2 returns-2
+    unknown-requires-3 returns-3 sub-n mul-load-bytes sub-load-bytes part-load-bytes-start part-load-bytes-end
+    load-bytes-requires sub-strip-by part-strip-by-start part-strip-by-end slice-relend-prefix-strip-by slice-aggregate-strip-by
+    array-borrow-prefix-bytes slice-aggregate-strip-by-2 strip-by-requires store-bytes-requires same-length returns-4)

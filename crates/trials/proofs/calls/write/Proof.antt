@@ -36,13 +36,5 @@ returns-2 c = search needs
 pub write-spec : {M : Type 1} → statement M
 write-spec =
     tie.close
-    (tie.spec
-    unknown-requires
-    returns
-    load-bytes-requires
-    array-borrow-prefix-room
-    slice-aggregate-write
-    write-requires
-    store-bytes-requires
-    same-length
-    returns-2)
+    (tie.spec unknown-requires returns load-bytes-requires array-borrow-prefix-room slice-aggregate-write write-requires
+    store-bytes-requires same-length returns-2)

@@ -72,25 +72,6 @@ returns-5 c = search needs
 pub judge-spec : {M : Type 1} → statement M
 judge-spec =
     tie.close
-    (tie.spec
-    part-requires
-    part-requires-2
-    part-requires-3
-    part-requires-4
-    at-requires
-    at-requires-2
-    at-requires-3
-    is-rest-requires
-    returns
-    returns-2
-    load-requires
-    array-borrow-prefix-room
-    slice-aggregate-answer
-    answer-requires
-    is-answer-requires
-    returns-3
-    part-requires-5
-    is-between-requires
-    returns-4
-    is-front-requires
-    returns-5)
+    (tie.spec part-requires part-requires-2 part-requires-3 part-requires-4 at-requires at-requires-2 at-requires-3
+    is-rest-requires returns returns-2 load-requires array-borrow-prefix-room slice-aggregate-answer answer-requires
+    is-answer-requires returns-3 part-requires-5 is-between-requires returns-4 is-front-requires returns-5)

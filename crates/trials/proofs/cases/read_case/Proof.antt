@@ -48,14 +48,5 @@ returns-3 c = search needs
 pub read-case-spec : {M : Type 1} → statement M
 read-case-spec =
     tie.close
-    (tie.spec
-    returns
-    blank-words-requires
-    array-borrow-prefix-w
-    slice-aggregate-read-words
-    read-words-requires
-    mul-if2
-    returns-2
-    slice-aggregate-judge
-    judge-requires
-    returns-3)
+    (tie.spec returns blank-words-requires array-borrow-prefix-w slice-aggregate-read-words read-words-requires mul-if2 returns-2
+    slice-aggregate-judge judge-requires returns-3)

@@ -37,14 +37,4 @@ returns-2 c = search needs
 pub run-all-spec : {M : Type 1} → statement M
 run-all-spec =
     tie.close
-    (tie.spec
-    Inv-loop
-    μ-loop
-    loop-holds
-    next-case-requires
-    returns
-    note-requires
-    add-case
-    loop-less
-    loop-again
-    returns-2)
+    (tie.spec Inv-loop μ-loop loop-holds next-case-requires returns note-requires add-case loop-less loop-again returns-2)

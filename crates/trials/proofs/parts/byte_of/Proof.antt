@@ -14,7 +14,8 @@ returns-2 c = search needs
 cast-result : tie.Need-cast-result
 cast-result c =
     let f = c .before .before .fits .z in
-    rw (toZ-ofZ f) (byte-fits (c .before .before .args .z) (rw (toZ-ofZ f) at (c .before .if1 .left)) (rw (toZ-ofZ f) at (c .if2 .left)))
+    rw (toZ-ofZ f) (byte-fits (c .before .before .args .z) (rw (toZ-ofZ f) at (c .before .if1 .left))
+    (rw (toZ-ofZ f) at (c .if2 .left)))
 
 returns-3 : tie.Need-returns-3
 returns-3 c = search needs

@@ -55,20 +55,5 @@ returns-3 c = search needs
 pub is-between-spec : {M : Type 1} → statement M
 is-between-spec =
     tie.close
-    (tie.spec
-    Inv-loop
-    μ-loop
-    returns
-    loop-holds
-    mul-if2
-    element-copy-out-if2
-    mul-if2-2
-    shared-slice-copy-out-if2
-    mul-if3
-    element-copy-out-if3
-    at-requires
-    returns-2
-    add-k
-    loop-less
-    loop-again
-    returns-3)
+    (tie.spec Inv-loop μ-loop returns loop-holds mul-if2 element-copy-out-if2 mul-if2-2 shared-slice-copy-out-if2 mul-if3
+    element-copy-out-if3 at-requires returns-2 add-k loop-less loop-again returns-3)

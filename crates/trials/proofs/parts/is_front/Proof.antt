@@ -46,17 +46,5 @@ returns-3 c = search needs
 pub is-front-spec : {M : Type 1} → statement M
 is-front-spec =
     tie.close
-    (tie.spec
-    Inv-loop
-    μ-loop
-    returns
-    loop-holds
-    mul-if2
-    element-copy-out-if2
-    mul-if2-2
-    shared-slice-copy-out-if2
-    returns-2
-    add-k
-    loop-less
-    loop-again
-    returns-3)
+    (tie.spec Inv-loop μ-loop returns loop-holds mul-if2 element-copy-out-if2 mul-if2-2 shared-slice-copy-out-if2 returns-2 add-k
+    loop-less loop-again returns-3)

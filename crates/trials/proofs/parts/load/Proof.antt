@@ -42,15 +42,5 @@ returns c = search needs
 pub load-spec : {M : Type 1} → statement M
 load-spec =
     tie.close
-    (tie.spec
-    Inv-loop
-    μ-loop
-    fitting-requires
-    loop-holds
-    at-requires
-    mul-room
-    array-set-from-room
-    add-k
-    loop-less
-    loop-again
+    (tie.spec Inv-loop μ-loop fitting-requires loop-holds at-requires mul-room array-set-from-room add-k loop-less loop-again
     returns)

@@ -42,15 +42,5 @@ returns c = search needs
 pub load-bytes-spec : {M : Type 1} → statement M
 load-bytes-spec =
     tie.close
-    (tie.spec
-    Inv-loop
-    μ-loop
-    fitting-requires
-    loop-holds
-    at-requires
-    byte-of-requires
-    array-write-room
-    add-k
-    loop-less
-    loop-again
-    returns)
+    (tie.spec Inv-loop μ-loop fitting-requires loop-holds at-requires byte-of-requires array-write-room add-k loop-less
+    loop-again returns)

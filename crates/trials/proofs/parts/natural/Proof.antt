@@ -9,7 +9,8 @@ returns : tie.Need-returns
 returns c = search needs
 
 cast-result : tie.Need-cast-result
-cast-result c = rw (toZ-ofZ (c .before .fits .z)) (count-fits _ (c .before .fits .z) (rw (toZ-ofZ (c .before .fits .z)) at (c .if1 .left)))
+cast-result c =
+    rw (toZ-ofZ (c .before .fits .z)) (count-fits _ (c .before .fits .z) (rw (toZ-ofZ (c .before .fits .z)) at (c .if1 .left)))
 
 returns-2 : tie.Need-returns-2
 returns-2 c = search needs

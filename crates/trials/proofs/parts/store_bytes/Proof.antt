@@ -48,17 +48,5 @@ returns-2 c = search needs
 pub store-bytes-spec : {M : Type 1} → statement M
 store-bytes-spec =
     tie.close
-    (tie.spec
-    Inv-loop
-    μ-loop
-    returns
-    loop-holds
-    sub-word-at
-    word-at-requires
-    mul-t10
-    slice-set-from-w
-    add-k
-    loop-less
-    loop-again
-    same-length
-    returns-2)
+    (tie.spec Inv-loop μ-loop returns loop-holds sub-word-at word-at-requires mul-t10 slice-set-from-w add-k loop-less loop-again
+    same-length returns-2)

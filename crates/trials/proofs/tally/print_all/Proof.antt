@@ -58,21 +58,6 @@ returns c = search needs
 pub print-all-spec : {M : Type 1} → statement M
 print-all-spec =
     tie.close
-    (tie.spec
-    Inv-loop
-    μ-loop
-    loop-holds
-    slot-requires
-    mul-print-line
-    element-copy-out-print-line
-    add-print-line
-    mul-print-line-2
-    element-copy-out-print-line-2
-    add-print-line-2
-    mul-print-line-3
-    element-copy-out-print-line-3
-    print-line-requires
-    add-call
-    loop-less
-    loop-again
-    returns)
+    (tie.spec Inv-loop μ-loop loop-holds slot-requires mul-print-line element-copy-out-print-line add-print-line mul-print-line-2
+    element-copy-out-print-line-2 add-print-line-2 mul-print-line-3 element-copy-out-print-line-3 print-line-requires add-call
+    loop-less loop-again returns)

@@ -36,13 +36,5 @@ returns-2 c = search needs
 pub read-words-spec : {M : Type 1} → statement M
 read-words-spec =
     tie.close
-    (tie.spec
-    returns
-    blank-requires
-    mul-m
-    array-borrow-prefix-raw
-    slice-aggregate-read-full
-    read-full-requires
-    unpack-requires
-    same-length
-    returns-2)
+    (tie.spec returns blank-requires mul-m array-borrow-prefix-raw slice-aggregate-read-full read-full-requires unpack-requires
+    same-length returns-2)

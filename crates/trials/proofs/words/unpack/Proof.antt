@@ -45,16 +45,5 @@ returns c = search needs
 pub unpack-spec : {M : Type 1} → statement M
 unpack-spec =
     tie.close
-    (tie.spec
-    Inv-loop
-    μ-loop
-    loop-holds
-    mul-word-at
-    word-at-requires
-    mul-t8
-    slice-set-from-out
-    add-k
-    loop-less
-    loop-again
-    same-length
-    returns)
+    (tie.spec Inv-loop μ-loop loop-holds mul-word-at word-at-requires mul-t8 slice-set-from-out add-k loop-less loop-again
+    same-length returns)

@@ -20,7 +20,8 @@ high u l f =
     ∙ sym (ap (λ (t : Bool). sel t (pos u) (negsuc (2 ^ 32 - suc u))) (le-ltb u (2 ^ 31) l))
 
 high64 : (u : ℕ) → 2147483648 ≤ u → Fits w32 u → toZ w64 (ofZ w64 (toZ w64 u -ℤ pos 4294967296)) ≡ toZ w32 u
-high64 u l f = ap (λ (z : ℤ). toZ w64 (ofZ w64 z)) (high u l f) ∙ toZ-ofZ {w = w64} (sfits-widen {w = w32} tt (sfits-toZ {w = w32} f))
+high64 u l f =
+    ap (λ (z : ℤ). toZ w64 (ofZ w64 z)) (high u l f) ∙ toZ-ofZ {w = w64} (sfits-widen {w = w32} tt (sfits-toZ {w = w32} f))
 
 in-word : (c : tie.Else1) → Fits w32 (c .before .bits .result)
 in-word c = record { fits = omega (arith, c .before .bits .ensures) }
@@ -38,16 +39,16 @@ cast-result-2 : tie.Need-cast-result-2
 cast-result-2 c = search needs
 
 sub-result : tie.Need-sub-result
-sub-result c = subst (SFits w64) (sym (high _ (c .if1 .left) (in-word c))) (sfits-widen {w = w32} tt (sfits-toZ {w = w32} (in-word c)))
+sub-result c =
+    subst (SFits w64) (sym (high _ (c .if1 .left) (in-word c))) (sfits-widen {w = w32} tt (sfits-toZ {w = w32} (in-word c)))
 
 cast-result-3 : tie.Need-cast-result-3
 cast-result-3 c = subst (SFits w32) (sym (high64 _ (c .if1 .left) (in-word c))) (sfits-toZ {w = w32} (in-word c))
 
 returns-2 : tie.Need-returns-2
 returns-2 c =
-    ap (λ (z : ℤ). toZ w32 (ofZ w32 z)) (high64 _ (c .if1 .left) (in-word c)) ∙ toZ-ofZ {w = w32} (sfits-toZ {w = w32} (in-word c)) ∙ ap (toZ w32) (c .before .bits .ensures)
+    ap (λ (z : ℤ). toZ w32 (ofZ w32 z)) (high64 _ (c .if1 .left) (in-word c))
+    ∙ toZ-ofZ {w = w32} (sfits-toZ {w = w32} (in-word c)) ∙ ap (toZ w32) (c .before .bits .ensures)
 
 pub word-spec : {M : Type 1} → statement M
-word-spec =
-    tie.close
-    (tie.spec bits-requires cast-result returns cast-result-2 sub-result cast-result-3 returns-2)
+word-spec = tie.close (tie.spec bits-requires cast-result returns cast-result-2 sub-result cast-result-3 returns-2)

@@ -1,0 +1,29 @@
+-- Each arm is a line of `inputsOf`.
+use borrow.Author.Needs.{needs}
+use Rattle.factor.specs.Tasks.{inputsOf}
+use Rattle.factor.proofs.run.inputs_of.Statement.{statement}
+use Rattle.factor.proofs.run.inputs_of.Tie as tie
+
+enum-told : tie.Need-enum-told
+enum-told c = search needs
+
+returns : tie.Need-returns
+unfolding inputsOf
+returns c = rw (c .enum-told .given .1)
+
+enum-told-2 : tie.Need-enum-told-2
+enum-told-2 c = search needs
+
+returns-2 : tie.Need-returns-2
+unfolding inputsOf
+returns-2 c = rw (c .enum-told2 .given .1)
+
+enum-told-3 : tie.Need-enum-told-3
+enum-told-3 c = search needs
+
+returns-3 : tie.Need-returns-3
+unfolding inputsOf
+returns-3 c = rw (c .enum-told3 .given .1)
+
+pub inputs-of-spec : {M : Type 1} → statement M
+inputs-of-spec = tie.close (tie.spec enum-told returns enum-told-2 returns-2 enum-told-3 returns-3)

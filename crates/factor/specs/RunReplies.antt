@@ -1,0 +1,89 @@
+-- HOW A RUN ENDS: over good stages, the run of the block in its room, and what is written, is the run of the lent numbers.
+use mathlib.Core.Bool.{true, false}
+use mathlib.Core.List.{List, [], _∷_, _++_, reverse}
+use mathlib.Core.Path.{_≡_, refl, sym, _∙_}
+use Prim.Native.Nat.{ℕ, _+_, _-_, _≤_}
+use native.Mathlib.Omega.{arith}
+use lib.IntN.{ℤ, pos}
+use lib.ListN.{length, replicate, replicate-append-replicate}
+use Rattle.rules.specs.declared.Answer.{Answer}
+use Rattle.rules.specs.declared.Rule.{Rule}
+use Rattle.rules.specs.Numbers.{bound}
+use Rattle.rules.specs.Stages.{Stage, Ran, inside, beyond, runForward, runInverse}
+use Rattle.rules.specs.Answers.{refused}
+use Rattle.rules.specs.Calls.{Reply, Gives, reply, ranAnswer, ranMemory}
+use Rattle.rules.specs.Laws.GoodStages.{AllGood}
+use Rattle.rules.specs.Laws.Padding.{forward-padded, inverse-padded, allowance-padded}
+use Rattle.rules.specs.Laws.Runs.{loop-start, loop-refused}
+use Rattle.laws.specs.AnswersInTurn.{ranReply}
+use Rattle.laws.specs.Plans.{forward-length, inverse-length, allowance-length}
+use Rattle.factor.specs.declared.run.Task.{Task}
+use Rattle.factor.specs.declared.run.Task.the-variants.{Forward, Inverse, Allowance}
+use Rattle.factor.specs.declared.run.Run.{Run}
+use Rattle.factor.specs.SumBounds.{Bounded, bounded-le}
+use Rattle.factor.specs.Tasks.{limitOf, inputsOf, numberOf, inOrder, stageBy, runBy, ranBy, ran}
+use Rattle.factor.specs.PaddedBlocks.{outcomeOf, finished, finished-is, padding, paddedBlock, padded-bounded}
+
+-- the reply to a run over a block b in its room
+abbrev pub ended : Ran → List ℤ → ℕ → List ℤ → Reply ℤ
+ended ran b number y = finished (outcomeOf ran) (ranMemory ran b) number y
+
+none-lent : (x : List ℤ) → length x ≡ 0 → x ≡ []
+none-lent [] e = refl
+none-lent (z ∷ x) e = absurd (omega arith)
+
+module _ (room : ℕ) {N : ℕ} {ss : List Stage} (good : AllGood N ss) (x y : List ℤ) (ly : length y ≡ N) where
+  -- the task apart from its record, so that it can be told by cases
+  ends : (task : Task) (rule : Rule) → let r : Run = record { task = task; rule = rule } in length x ≡ inputsOf task N →
+      N ≤ room →
+      ended (runBy r N ss (paddedBlock room x)) (paddedBlock room x) (numberOf task) y ≡ ranReply (numberOf task)
+      (ranBy task rule N ss x) y
+  unfolding paddedBlock limitOf stageBy inOrder numberOf inputsOf ranBy runForward runInverse
+  ends Forward rule lx few =
+      rw (forward-padded rule (padding room (length x)) good x (omega arith))
+      (finished-is 10 _ (padding room (length x)) (x ++ padding room (length x)) y
+      (λ v e. forward-length rule N ss x v e ∙ lx ∙ sym ly))
+  ends Inverse rule lx few =
+      rw (inverse-padded rule (padding room (length x)) good x (omega arith))
+      (finished-is 10 _ (padding room (length x)) (x ++ padding room (length x)) y
+      (λ v e. inverse-length rule N ss x v e ∙ lx ∙ sym ly))
+  ends Allowance rule lx few =
+      rw (from-zero, allowance-padded rule (padding room N) good)
+      (finished-is 12 _ (padding room N) _ y (λ v e. allowance-length rule N ss v e ∙ sym ly))
+    where
+      -- allowances start at 0
+      zeros : replicate (room - 0) (pos 0) ≡ replicate N (pos 0) ++ padding room N
+      zeros = let e : N + (room - N) ≡ room - 0 = omega arith in sym (replicate-append-replicate N (room - N) (pos 0) ∙ rw e)
+
+      from-zero : x ++ padding room (length x) ≡ replicate N (pos 0) ++ padding room N
+      from-zero = rw (none-lent x lx) zeros
+
+  pub run-ends : (r : Run) → length x ≡ inputsOf (r .task) N → N ≤ room →
+      ended (runBy r N ss (paddedBlock room x)) (paddedBlock room x) (numberOf (r .task)) y ≡ ranReply (numberOf (r .task))
+      (ran r N ss x) y
+  run-ends r lx few = ends (r .task) (r .rule) lx few
+
+-- the lent numbers, in bound, and 0 behind them are within the limit of the task
+pub start-bounded : (room : ℕ) (task : Task) (x : List ℤ) → inside bound (length x) x ≡ true →
+    Bounded (limitOf task) (paddedBlock room x)
+unfolding limitOf
+start-bounded room Forward x h = padded-bounded room bound x h
+start-bounded room Inverse x h = padded-bounded room bound x h
+start-bounded room Allowance x h = bounded-le (omega arith) (padded-bounded room bound x h)
+
+-- stage 0: a block with a number beyond the bound
+module _ (N : ℕ) (ss : List Stage) (x y : List ℤ) (out : inside bound (length x) x ≡ false) {a : Answer}
+    (e : a ≡ refused 11 0 0) where
+  replies : {ran : Ran} → ran ≡ beyond 0 → Gives a y (ranReply 11 ran y)
+  unfolding reply ranAnswer ranMemory
+  replies h = rw (h, e) (refl, refl)
+
+  out-by : (task : Task) (rule : Rule) → length x ≡ inputsOf task N →
+      Gives a y (ranReply (numberOf task) (ranBy task rule N ss x) y)
+  unfolding inputsOf numberOf ranBy runForward runInverse inside
+  out-by Forward rule lx = replies (loop-start _ _ ss x ∙ loop-refused _ _ 0 ss x (rw lx at out))
+  out-by Inverse rule lx = replies (loop-start _ _ (reverse ss) x ∙ loop-refused _ _ 0 (reverse ss) x (rw lx at out))
+  out-by Allowance rule lx = let z : true ≡ false = rw lx at out in let w : _≡_ {A = ℕ} 0 1 = cc in absurd (omega arith)
+
+  pub run-out : (r : Run) → length x ≡ inputsOf (r .task) N → Gives a y (ranReply (numberOf (r .task)) (ran r N ss x) y)
+  run-out r lx = out-by (r .task) (r .rule) lx

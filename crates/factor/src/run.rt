@@ -1,0 +1,79 @@
+// Which run it is, and how it ended: one record for each, for lines and for rectangles.
+ghost use mathlib.Core.Path.{_≡_};
+ghost use Prim.Native.Nat.{_<_};
+ghost use Rattle.factor.specs.Tasks.{byNearest, isInverse, inputsOf, numberOf, nthStage};
+use rules::Rule;
+
+// Numbers through the stages, first to last; back through them, last to first; or the allowances of the coefficients, first to
+// last.
+pub enum Task {
+    Forward,
+    Inverse,
+    Allowance,
+}
+
+// Which run it is: its task, and the rule by which its sums are rounded.
+pub struct Run {
+    pub task: Task,
+    pub rule: Rule,
+}
+
+// How it ended: whether every number was in bound; if not, the stage that has one beyond it, counted from where it began.
+pub struct Outcome {
+    pub ok: bool,
+    pub stage: usize,
+}
+
+// A run by the rule of document 01.
+pub fn nearest(task: Task) -> Run
+    ensures { λ r. ⌜ r ≡ byNearest task ⌝ }
+{
+    Run {
+        task,
+        rule: Rule::Nearest,
+    }
+}
+
+// Whether numbers go back.
+pub fn is_inverse(task: Task) -> bool
+    ensures { λ r. ⌜ r ≡ isInverse task ⌝ }
+{
+    match task {
+        Task::Forward => return false,
+        Task::Inverse => return true,
+        Task::Allowance => return false,
+    }
+}
+
+// How many numbers are lent for a block of n: none for allowances, which all start at 0.
+pub fn inputs_of(task: Task, n: usize) -> usize
+    ensures { λ r. ⌜ r ≡ inputsOf task n ⌝ }
+{
+    match task {
+        Task::Forward => return n,
+        Task::Inverse => return n,
+        Task::Allowance => return 0,
+    }
+}
+
+// The number of a refusal on the way.
+pub fn number_of(task: Task) -> u32
+    ensures { λ r. ⌜ r ≡ numberOf task ⌝ }
+{
+    match task {
+        Task::Forward => return 11,
+        Task::Inverse => return 11,
+        Task::Allowance => return 13,
+    }
+}
+
+// Which of the factors comes after t others.
+pub fn nth_stage(task: Task, many: usize, t: usize) -> usize
+    requires { ⌜ t < many ⌝ }
+    ensures { λ r. ⌜ r ≡ nthStage task many t ⌝ }
+{
+    if is_inverse(task) {
+        return many - 1 - t;
+    }
+    t
+}

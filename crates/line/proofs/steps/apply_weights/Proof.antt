@@ -1,0 +1,103 @@
+-- The new block has its first m elements, each from the old one, and all of it is in bound.
+use borrow.Author.Needs.{needs}
+use borrow.Author.Tests.{not-true, not-false}
+use mathlib.Core.Path.{_≡_, refl, ap, _∙_}
+use Prim.Native.Nat.{ℕ, _-_, _≤_}
+use native.Mathlib.Numerals.{add-one}
+use native.Mathlib.Omega.{arith}
+use lib.IntN.{ℤ}
+use lib.ListN.{length}
+use mir.Syntax.{w32, w64}
+use mir.Val.{toZ, ofZ}
+use Rattle.whole.specs.Diff.{Within}
+use Rattle.whole.specs.Machine.{fits, reads, back}
+use Rattle.rules.specs.Numbers.{bound}
+use Rattle.rules.specs.Stages.{fill}
+use Rattle.rules.specs.Laws.Lists.{fill-at}
+use Rattle.factor.specs.SumBounds.{Bounded, bounded-set, beyond-there, test-no, test-yes}
+use Rattle.factor.specs.Steps.{step-stops, step-goes}
+use Rattle.line.specs.Steps.{appliedAt}
+use Rattle.line.proofs.steps.apply_weights.Statement.{statement}
+use Rattle.line.proofs.steps.apply_weights.Tie as tie
+
+abbrev Inv-loop : tie.InvT-loop
+Inv-loop rule sheet f x n y₀ m₀ y m = (m ≤ n) × (y ≡ fill m (appliedAt rule sheet f x) x) × Bounded bound y
+
+abbrev μ-loop : tie.MeasureT-loop
+μ-loop rule sheet f x n y₀ m₀ y m = n - m
+
+-- what element k becomes
+abbrev F : tie.Start Inv-loop μ-loop → ℕ → ℤ
+F s = appliedAt (s .args .rule) (s .args .sheet .now) (s .args .f) (s .args .t4)
+
+len : (s : tie.Start Inv-loop μ-loop) → length (s .args .t4) ≡ 16
+len s = search needs
+
+loop-holds : tie.Need-loop-holds Inv-loop μ-loop
+unfolding fill
+loop-holds c = (omega arith, refl, c .pre .1)
+
+applied-at-requires : tie.Need-applied-at-requires Inv-loop μ-loop
+applied-at-requires c κs = let s = c .before .before .before in (s .pre .0, c .before .loop-test .taken, s .pre .1)
+
+value :
+    (c : tie.After-applied-at Inv-loop μ-loop) →
+    toZ w64 (ofZ w64 (c .applied-at .result)) ≡ F (c .before .before .before .before) (c .before .before .before .loop .m)
+value c = back w64 _ (c .applied-at .ok) ∙ c .applied-at .ensures
+
+is-within-requires : tie.Need-is-within-requires Inv-loop μ-loop
+is-within-requires c κs = tt
+
+returns : tie.Need-returns Inv-loop μ-loop
+returns c =
+    let i = c .before .before .before .before in
+    let s = i .before .before in
+    let m = i .before .loop .m in
+    let h = i .loop-test .taken in
+    step-stops
+    (beyond-there bound (s .args .f .order) (fill (s .args .f .order) (F s) (s .args .t4)) m (F s m) h
+    (fill-at _ (F s) (s .args .t4) m h (let o = s .pre .0 .order in omega (arith, len s)))
+    (test-no bound (value (c .before .before)) (c .before .is-within .ensures) (not-true _ (c .if1 .taken))))
+
+held :
+    (c : tie.Else1 Inv-loop μ-loop) →
+    Within bound (F (c .before .before .before .before .before .before) (c .before .before .before .before .before .loop .m))
+held c = test-yes bound (value (c .before .before)) (c .before .is-within .ensures) (not-false _ (c .if1 .left))
+
+cast-y : tie.Need-cast-y Inv-loop μ-loop
+cast-y c = rw (value (c .before .before)) (fits (held c) tt)
+
+mul-y : tie.Need-mul-y Inv-loop μ-loop
+mul-y c = omega arith
+
+array-set-from-y : tie.Need-array-set-from-y Inv-loop μ-loop
+array-set-from-y c = omega arith
+
+add-m : tie.Need-add-m Inv-loop μ-loop
+add-m c = omega arith
+
+loop-less : tie.Need-loop-less Inv-loop μ-loop
+loop-less c = omega arith
+
+loop-again : tie.Need-loop-again Inv-loop μ-loop
+unfolding fill
+loop-again c =
+    let l = c .before .before .before .before .before .loop in (
+      omega arith,
+      rw (add-one, value (c .before .before), reads w32 (held c) tt, l .inv .1),
+      rw (value (c .before .before), reads w32 (held c) tt) (bounded-set (l .y) (l .m) (l .inv .2) (held c)),
+    )
+
+returns-2 : tie.Need-returns-2 Inv-loop μ-loop
+returns-2 c =
+    let s = c .before .before in
+    let l = c .before .loop in
+    let e : l .m ≡ s .args .f .order = omega arith in
+    let y : l .y ≡ fill (s .args .f .order) (F s) (s .args .t4) = l .inv .1 ∙ ap (λ (k : ℕ). fill k (F s) (s .args .t4)) e in
+    step-goes y (l .inv .2)
+
+pub apply-weights-spec : {M : Type 1} → statement M
+apply-weights-spec =
+    tie.close
+    (tie.spec Inv-loop μ-loop loop-holds applied-at-requires is-within-requires returns cast-y mul-y array-set-from-y add-m
+    loop-less loop-again returns-2)

@@ -1,0 +1,48 @@
+-- The row's sum is small (`row-small`), so it and its rounding fit 64 bits.
+use mathlib.Core.Path.{_≡_, _∙_}
+use native.Mathlib.Omega.{arith}
+use mir.Syntax.{w64}
+use mir.Val.{toZ, ofZ}
+use Rattle.whole.specs.Diff.{Within}
+use Rattle.whole.specs.Machine.{fits, back, within-+, within-pos}
+use Rattle.rules.specs.Numbers.{unit, at}
+use Rattle.factor.specs.Layouts.{rowOf, along}
+use Rattle.factor.specs.SumBounds.{bounded-le}
+use Rattle.factor.specs.Rounding.{rounded-within}
+use Rattle.line.specs.Steps.{roundedSum}
+use Rattle.line.specs.LineBounds.{mostSum, row-of-16, row-small}
+use Rattle.line.proofs.steps.rounded_sum_at.Statement.{statement}
+use Rattle.line.proofs.steps.rounded_sum_at.Tie as tie
+
+row-of-requires : tie.Need-row-of-requires
+row-of-requires c κs = let h = c .pre .0 in let r = h .row (c .args .m) (c .pre .1) .room in (c .pre .1, h .order, omega arith)
+
+row-sum-requires : tie.Need-row-sum-requires
+row-sum-requires c κs =
+    let h = c .before .pre in
+    rw (c .row-of .ensures) (row-of-16 (h .0) (c .before .args .m) (h .1), bounded-le (omega arith) (h .2))
+
+value :
+    (c : tie.After-row-sum) →
+    toZ w64 (ofZ w64 (c .row-sum .result))
+    ≡ along (at (c .before .before .args .sheet .now)) (rowOf (c .before .before .args .f) (c .before .before .args .m))
+    (c .before .before .args .m) (c .before .before .args .x .now)
+value c = back w64 _ (c .row-sum .ok) ∙ c .row-sum .ensures ∙ rw (c .before .row-of .ensures)
+
+small :
+    (c : tie.After-row-sum) →
+    Within mostSum (along (at (c .before .before .args .sheet .now))
+    (rowOf (c .before .before .args .f) (c .before .before .args .m)) (c .before .before .args .m)
+    (c .before .before .args .x .now))
+small c = let h = c .before .before .pre in row-small (h .0) (c .before .before .args .m) (h .1) (bounded-le (omega arith) (h .2))
+
+round-line-requires : tie.Need-round-line-requires
+round-line-requires c κs =
+    rw (value c) (fits (within-+ (small c) (within-pos 2048)) tt, fits (rounded-within _ unit (small c)) tt)
+
+returns : tie.Need-returns
+unfolding roundedSum
+returns c = back w64 _ (c .round-line .ok) ∙ c .round-line .ensures ∙ rw (value (c .before))
+
+pub rounded-sum-at-spec : {M : Type 1} → statement M
+rounded-sum-at-spec = tie.close (tie.spec row-of-requires row-sum-requires round-line-requires returns)
