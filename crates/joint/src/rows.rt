@@ -72,8 +72,8 @@ fn undo_row(
     i: usize,
     x: &mut [i32; 256],
 ) -> Outcome
-    requires { ⌜ InSheet (now col) fa × InSheet (now row) fb × (i < fa .order) × (fb .row < fb .order) × Bounded bound (now x)
-        × (length (now x) ≡ 256) ⌝ }
+    requires { ⌜ InSheet (now col) fa × InSheet (now row) fb × (i < fa .order) × (fb .row < fb .order)
+        × Bounded bound (now x) × (length (now x) ≡ 256) ⌝ }
     ensures { λ r. ⌜ RowDone bound (undoneOf rule (now (col .entry)) fa (now (row .entry)) fb)
         (λ u. inRow (fb .order) i (nthUndone (fb .kind) (fb .order) (fb .row) u)) (fb .order)
         (now (x .entry)) (now (x .exit)) (r .ok) ⌝ }
@@ -109,7 +109,8 @@ fn allow_row(
     x: &mut [i32; 256],
 ) -> Outcome
     requires { ⌜ InSheet (now col) fa × InSheet (now row) fb × (i < fa .order) × Bounded mostAllowance (now x) ⌝ }
-    ensures { λ r. ⌜ RowDone mostAllowance (plain (allowedOf rule (now (col .entry)) fa (now (row .entry)) fb (now (x .entry))))
+    ensures { λ r. ⌜ RowDone mostAllowance
+        (plain (allowedOf rule (now (col .entry)) fa (now (row .entry)) fb (now (x .entry))))
         (inRow (fb .order) i) (fb .order) (now (x .entry)) (now (x .exit)) (r .ok) ⌝ }
 {
     let n = fb.order;

@@ -37,7 +37,8 @@ fn wide_sum(a: &[i32], p: usize, v: &[i64; 16], k: usize, m: usize) -> i64
 // One row of the block more: a times each of its n numbers, from place k on, into the sums v. Sums are lent, so that there is one
 // row of them, and go row by row, since the numbers of a row lie side by side.
 fn add_row(a: i32, x: &[i32; 256], k: usize, n: usize, v: &mut [i64; 16])
-    requires { ⌜ (n ≤ 16) × (k + n ≤ 256) × Within mostEntry a × Bounded mostAllowance (now x) × Bounded mostColumn (now v) ⌝ }
+    requires { ⌜ (n ≤ 16) × (k + n ≤ 256) × Within mostEntry a
+        × Bounded mostAllowance (now x) × Bounded mostColumn (now v) ⌝ }
     ensures { λ _. ⌜ now (v .exit) ≡ added n (λ c. a *ℤ at (now (x .entry)) (k + c)) (now (v .entry)) ⌝ }
 {
     for c in 0..n {
@@ -77,7 +78,8 @@ pub fn column_sums(
     n: usize,
     v: &mut [i64; 16],
 )
-    requires { ⌜ Band (now a) r m diagonal × (n ≤ 16) × Bounded mostAllowance (now x) × (now v ≡ replicate 16 (pos 0)) ⌝ }
+    requires { ⌜ Band (now a) r m diagonal × (n ≤ 16)
+        × Bounded mostAllowance (now x) × (now v ≡ replicate 16 (pos 0)) ⌝ }
     ensures { λ _. ⌜ now (v .exit) ≡ columnSums (now (a .entry)) r m diagonal (now (x .entry)) n ⌝ }
 {
     rest_sums(a, r, m, x, n, v);

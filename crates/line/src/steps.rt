@@ -157,8 +157,8 @@ fn allowed_at(rule: Rule, sheet: &[i32], f: Layout, m: usize, b: &[i32; 16]) -> 
 // The allowances after a factor with weights.
 pub fn allow_weights(rule: Rule, sheet: &[i32], f: Layout, b: [i32; 16]) -> Passed
     requires { ⌜ InSheet (now sheet) f × Bounded mostAllowance b ⌝ }
-    ensures { λ r. ⌜ Step mostAllowance (f .order) (fill (f .order) (allowedAt rule (now (sheet .entry)) f b) b) (r .outcome .ok)
-        (r .block) ⌝ }
+    ensures { λ r. ⌜ Step mostAllowance (f .order) (fill (f .order) (allowedAt rule (now (sheet .entry)) f b) b)
+        (r .outcome .ok) (r .block) ⌝ }
 {
     let n = f.order;
     let mut c = b;

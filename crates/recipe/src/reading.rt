@@ -43,7 +43,8 @@ pub fn scan(bytes: &[u8]) -> End
 fn read_into(bytes: &[u8], i: usize, out: &mut [i32], k: usize) -> usize
     requires { ⌜ (i ≤ length (now bytes)) × (k < length (now out)) ⌝ }
     ensures next { λ r. ⌜ r ≡ i + number (drop i (now (bytes .entry))) .size ⌝ }
-    ensures list { λ _. ⌜ now (out .exit) ≡ set (now (out .entry)) k (value (number (drop i (now (bytes .entry))) .code)) ⌝ }
+    ensures list { λ _. ⌜ now (out .exit)
+        ≡ set (now (out .entry)) k (value (number (drop i (now (bytes .entry))) .code)) ⌝ }
 {
     let r = read_number(bytes, i);
     out[k] = value_of(r.code);
