@@ -69,7 +69,7 @@ module _ {N : ℕ} {p : ℕ → ℕ} (h : Permutes N p) where
               (inPlace step p t y) (p t) (h .below t l),
         )
 
-    -- THE WALK UNDOES THE STAGE
+    -- RECOVERED IN PLACE, THE STAGE IS UNDONE
     pub in-place-undoes :
         0 < S → ((e : ℕ) → e < N → Sign (d e)) → ((t u : ℕ) → t < u → u < N → w (p t) (p u) ≡ pos 0) →
         {o : List ℕ} → Recovers N d w o → (y : List ℤ) → N ≤ length y → inPlace step p N y ≡ recover rule N S d w o y

@@ -86,7 +86,7 @@ unfolding inPlace
 steps-same f g q zero x h = refl
 steps-same f g q (suc m) x h = rw (steps-same f g q m x (λ u l. h u (omega arith)), h m (omega arith) (inPlace g q m x))
 
--- a walk goes on where it stands
+-- what is set in place goes on from where it stands
 in-place-on : (step : List ℤ → ℕ → ℤ) (p q : ℕ → ℕ) (a b : ℕ) (x : List ℤ) → ((u : ℕ) → u < b → p (a + u) ≡ q u) →
     inPlace step q b (inPlace step p a x) ≡ inPlace step p (a + b) x
 unfolding inPlace
