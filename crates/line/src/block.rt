@@ -6,6 +6,7 @@ ghost use Rattle.rules.specs.Numbers.{count};
 ghost use Rattle.rules.specs.Calls.{Gives};
 ghost use Rattle.laws.specs.Accepted.{Accepted};
 ghost use Rattle.laws.specs.AnswersInTurn.{ranReply};
+ghost use Rattle.sheet.specs.Starts.{Starts};
 ghost use Rattle.factor.specs.Tasks.{inputsOf, numberOf, ran};
 ghost use Rattle.factor.specs.PaddedBlocks.{paddedBlock};
 ghost use Rattle.line.specs.Runs.{lineStagesOf};
@@ -27,9 +28,9 @@ fn load(x: &[i32]) -> [i32; 16]
 }
 
 // 11 or 13, or what the run gives in y.
-pub fn run_block(run: Run, s: &[i32], x: &[i32], y: &mut [i32]) -> Answer
-    requires { ⌜ Accepted (now s) × (length (now x) ≡ inputsOf (run .task) (count (now s) 0))
-        × (length (now y) ≡ count (now s) 0) ⌝ }
+pub fn run_block(run: Run, s: &[i32], starts: &[u16; 32], x: &[i32], y: &mut [i32]) -> Answer
+    requires { ⌜ Accepted (now s) × Starts (now s) (now starts)
+        × (length (now x) ≡ inputsOf (run .task) (count (now s) 0)) × (length (now y) ≡ count (now s) 0) ⌝ }
     ensures { λ a. ⌜ Gives a (now (y .exit))
         (ranReply (numberOf (run .task)) (ran run (count (now (s .entry)) 0) (lineStagesOf (now (s .entry))) (now (x .entry)))
         (now (y .entry))) ⌝ }
@@ -38,6 +39,6 @@ pub fn run_block(run: Run, s: &[i32], x: &[i32], y: &mut [i32]) -> Answer
         return Answer::refused(11, 0, 0);
     }
     let task = run.task;
-    let r = run_stages(run, s, load(x));
+    let r = run_stages(run, s, starts, load(x));
     finish(task, r.outcome, &r.block, y)
 }

@@ -11,6 +11,7 @@ use factor::run::nearest;
 use rules::Answer;
 use rules::Rule;
 use sheet::factors::count_at;
+use sheet::factors::starts_of;
 
 mod steps; // what a factor does to the elements
 mod stages; // one stage: the factor at a place of the sheet
@@ -31,7 +32,7 @@ fn call(run: Run, s: &[i32], x: &[i32], y: &mut [i32]) -> Answer
     if l.number != 0 {
         return l;
     }
-    run_block(run, s, x, y)
+    run_block(run, s, &starts_of(s), x, y)
 }
 
 // Forward: x through the sheet's factors, first to last, into y.

@@ -1,6 +1,7 @@
 // All factors of a checked sheet, one after another.
 ghost use Rattle.rules.specs.Numbers.{count};
 ghost use Rattle.laws.specs.Accepted.{Accepted};
+ghost use Rattle.sheet.specs.Starts.{Starts};
 ghost use Rattle.factor.specs.PaddedBlocks.{RunEnded};
 ghost use Rattle.factor.specs.SumBounds.{Bounded};
 ghost use Rattle.factor.specs.Tasks.{limitOf, runBy};
@@ -11,18 +12,16 @@ use factor::run::Outcome;
 use factor::run::Run;
 use factor::run::nth_stage;
 use sheet::factors::count_at;
-use sheet::factors::starts_of;
 
 // The block after the last stage, or the stage that is refused: first to last, or, for an inverse run, last to first.
-pub fn run_stages(run: Run, sheet: &[i32], x: [i32; 16]) -> Passed
-    requires { ⌜ Accepted (now sheet) × Bounded (limitOf (run .task)) x ⌝ }
+pub fn run_stages(run: Run, sheet: &[i32], starts: &[u16; 32], x: [i32; 16]) -> Passed
+    requires { ⌜ Accepted (now sheet) × Starts (now sheet) (now starts) × Bounded (limitOf (run .task)) x ⌝ }
     ensures { λ r. ⌜ RunEnded (runBy run (count (now (sheet .entry)) 0) (lineStagesOf (now (sheet .entry))) x) (r .outcome)
         (r .block) ⌝ }
 {
     let task = run.task;
     let n = count_at(sheet, 0);
     let many = count_at(sheet, 1);
-    let starts = starts_of(sheet);
     let mut v = x;
     for t in 0..many {
         let i = starts[nth_stage(task, many, t)] as usize;

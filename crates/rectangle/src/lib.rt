@@ -12,6 +12,7 @@ use rules::Answer;
 use rules::Rule;
 use sheet::check_pair;
 use sheet::factors::count_at;
+use sheet::factors::starts_of;
 
 mod steps; // a pair of factors with weights
 mod moves; // a pair of permutations
@@ -34,7 +35,7 @@ fn call(run: Run, col: &[i32], row: &[i32], x: &[i32], y: &mut [i32]) -> Answer
     if l.number != 0 {
         return l;
     }
-    run_block(run, col, row, x, y)
+    run_block(run, col, row, &starts_of(col), &starts_of(row), x, y)
 }
 
 // Forward: x through the pairs of factors, first to last, into y.

@@ -1,6 +1,7 @@
 // All pairs of factors of two checked sheets that match, one after another, in place on one block.
 ghost use mathlib.Core.Path.{_≡_};
 ghost use lib.ListN.{length};
+ghost use Rattle.sheet.specs.Starts.{Starts};
 ghost use Rattle.factor.specs.PaddedBlocks.{RunEnded};
 ghost use Rattle.factor.specs.SumBounds.{Bounded};
 ghost use Rattle.factor.specs.Tasks.{limitOf};
@@ -10,11 +11,18 @@ use factor::run::Outcome;
 use factor::run::Run;
 use factor::run::nth_stage;
 use sheet::factors::count_at;
-use sheet::factors::starts_of;
 
 // First to last, or, for an inverse run, last to first: the block after the last stage, or the stage that is refused.
-pub fn run_stages(run: Run, col: &[i32], row: &[i32], x: &mut [i32; 256]) -> Outcome
-    requires { ⌜ Matched (now col) (now row) × Bounded (limitOf (run .task)) (now x) × (length (now x) ≡ 256) ⌝ }
+pub fn run_stages(
+    run: Run,
+    col: &[i32],
+    row: &[i32],
+    columns: &[u16; 32],
+    rows: &[u16; 32],
+    x: &mut [i32; 256],
+) -> Outcome
+    requires { ⌜ Matched (now col) (now row) × Starts (now col) (now columns) × Starts (now row) (now rows)
+        × Bounded (limitOf (run .task)) (now x) × (length (now x) ≡ 256) ⌝ }
     ensures { λ r. ⌜ RunEnded (jointRunBy run (now (col .entry)) (now (row .entry)) (now (x .entry))) r (now (x .exit))
         × (length (now (x .exit)) ≡ 256) ⌝ }
 {
@@ -22,8 +30,6 @@ pub fn run_stages(run: Run, col: &[i32], row: &[i32], x: &mut [i32; 256]) -> Out
     let n1 = count_at(col, 0);
     let n2 = count_at(row, 0);
     let many = count_at(col, 1);
-    let columns = starts_of(col);
-    let rows = starts_of(row);
     for t in 0..many {
         let f = nth_stage(task, many, t);
         let i = columns[f] as usize;

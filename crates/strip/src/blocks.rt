@@ -43,6 +43,8 @@ pub fn run_block(
     run: Run,
     col: &[i32],
     row: &[i32],
+    columns: &[u16; 32],
+    rows: &[u16; 32],
     x: &[i32],
     y: &mut [i32],
 ) -> Answer
@@ -54,7 +56,7 @@ pub fn run_block(
         (callOf run (planOf shape (now (col .entry)) (now (row .entry))) (now (x .entry)) (now (y .entry))) ⌝ }
 {
     match shape {
-        Shape::Line => return line::block::run_block(run, col, x, y),
-        Shape::Joint => return rectangle::block::run_block(run, col, row, x, y),
+        Shape::Line => return line::block::run_block(run, col, columns, x, y),
+        Shape::Joint => return rectangle::block::run_block(run, col, row, columns, rows, x, y),
     }
 }

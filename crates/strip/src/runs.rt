@@ -12,6 +12,7 @@ use crate::blocks::size_of;
 use factor::lengths::check_length;
 use factor::run::Run;
 use rules::Answer;
+use sheet::factors::starts_of;
 
 // 10: the input is no whole number of blocks of n; then the output, then the bytes.
 fn check_strip(n: usize, x: usize, y: usize, bytes: usize) -> Answer
@@ -48,10 +49,21 @@ fn run_blocks(
         × (now (bytes .exit) ≡ bytesBy shape run (now (col .entry)) (now (row .entry)) (length (now (bytes .entry)))
         (now (x .entry)) (now (y .entry))) ⌝ }
 {
+    let columns = starts_of(col);
+    let rows = starts_of(row);
     for k in 0..bytes.len() {
         let o = k * n;
         let e = o + n;
-        let a = run_block(shape, run, col, row, &x[o..e], &mut y[o..e]);
+        let a = run_block(
+            shape,
+            run,
+            col,
+            row,
+            &columns,
+            &rows,
+            &x[o..e],
+            &mut y[o..e],
+        );
         bytes[k] = a.number as u8;
     }
 }
