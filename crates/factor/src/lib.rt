@@ -85,7 +85,7 @@ pub fn layout_at(sheet: &[i32], n: usize, i: usize) -> Layout
 }
 
 // How many entries of a lower factor stand above row m.
-fn before_lower(m: usize) -> usize
+pub fn before_lower(m: usize) -> usize
     requires { ⌜ m ≤ mostOrder ⌝ }
     ensures { λ r. ⌜ r ≡ triangle m ⌝ }
 {
@@ -93,7 +93,7 @@ fn before_lower(m: usize) -> usize
 }
 
 // How many entries of an upper factor of order n stand above row m.
-fn before_upper(n: usize, m: usize) -> usize
+pub fn before_upper(n: usize, m: usize) -> usize
     requires { ⌜ (m < n) × (n ≤ mostOrder) ⌝ }
     ensures { λ r. ⌜ r ≡ above n m ⌝ }
 {

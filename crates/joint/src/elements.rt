@@ -38,7 +38,7 @@ pub fn diagonal_of(d: i32) -> i32
 }
 
 // The sign of an element: "A(i,i)·B(j,j)".
-fn both_signs(d: i32, e: i32) -> i32
+pub fn both_signs(d: i32, e: i32) -> i32
     requires { ⌜ SFits w32 (d *ℤ e) ⌝ }
     ensures { λ r. ⌜ r ≡ d *ℤ e ⌝ }
 {
@@ -140,4 +140,23 @@ pub fn undone_at(rule: Rule, row: &[i32], f: Layout, j: usize, d: i32, v: &[i64;
         x,
         rounded_rest_at(rule, row, f, j, v),
     )
+}
+
+// A sum, and the diagonal's weight times the number of its own column.
+pub fn with_diagonal(sum: i64, d: i32, w: i64) -> i64 {
+    sum + 4096 * turned(d, w)
+}
+
+// d times a number: a sign turns it, which is faster than a product.
+fn turned(d: i32, w: i64) -> i64 {
+    if d < 0 {
+        return -w;
+    }
+    w
+}
+
+pub fn applied_whole(rule: Rule, s: i64, d: i32, e: i32, x: i32) -> i64 {
+    match rule {
+        Rule::Nearest => return round_joint(rule, s),
+    }
 }

@@ -21,6 +21,10 @@ use crate::elements::sign_at;
 use crate::elements::sums_at;
 use crate::elements::undone_at;
 use crate::sums::with_sum;
+use crate::triangles::apply_lower_row;
+use crate::triangles::apply_upper_row;
+use crate::triangles::undo_lower_row;
+use crate::triangles::undo_upper_row;
 use factor::Layout;
 use factor::nth_undone;
 use factor::rounding::is_within;
@@ -28,10 +32,11 @@ use factor::run::Outcome;
 use factor::run::Run;
 use factor::run::Task;
 use rules::Block;
+use rules::Kind;
 use rules::Rule;
 
 // Row i applied in place: an element looks at the row's sums, made before, and at its own number.
-fn apply_row(
+pub fn apply_row(
     rule: Rule,
     col: &[i32],
     fa: Layout,
@@ -47,6 +52,13 @@ fn apply_row(
     let n = fb.order;
     let mut v = [0i64; 16];
     sums_at(col, fa, i, x, n, &mut v);
+    let kind = fb.kind;
+    match kind {
+        Kind::Lower => return apply_lower_row(rule, row, fb, sign_at(col, fa, i), &v, i * n, x),
+        Kind::Upper => return apply_upper_row(rule, row, fb, sign_at(col, fa, i), &v, i * n, x),
+        Kind::Single => {}
+        Kind::Permutation => {}
+    }
     for j in 0..n {
         let e = i * n + j;
         let z = applied_at(rule, row, fb, j, sign_at(col, fa, i), &v, x[e]);
@@ -63,7 +75,7 @@ fn apply_row(
 
 // Row i undone in place, in the order of the row sheet's factor. A number goes into the row's sums when it is recovered:
 // nothing looks at it before.
-fn undo_row(
+pub fn undo_row(
     rule: Rule,
     col: &[i32],
     fa: Layout,
@@ -81,6 +93,13 @@ fn undo_row(
     let n = fb.order;
     let mut v = [0i64; 16];
     rest_sums_at(col, fa, i, x, n, &mut v);
+    let kind = fb.kind;
+    match kind {
+        Kind::Lower => return undo_lower_row(rule, row, fb, sign_at(col, fa, i), &mut v, i * n, x),
+        Kind::Upper => return undo_upper_row(rule, row, fb, sign_at(col, fa, i), &mut v, i * n, x),
+        Kind::Single => {}
+        Kind::Permutation => {}
+    }
     for u in 0..n {
         let j = nth_undone(fb, u);
         let e = i * n + j;
@@ -99,7 +118,7 @@ fn undo_row(
 }
 
 // The allowances of row i in place.
-fn allow_row(
+pub fn allow_row(
     rule: Rule,
     col: &[i32],
     fa: Layout,
@@ -129,28 +148,4 @@ fn allow_row(
         x[e] = z as i32;
     }
     Outcome { ok: true, stage: 0 }
-}
-
-// Row i in place: undone, each element is from what is recovered; else from the block as it stands before the row.
-pub fn run_row(
-    run: Run,
-    col: &[i32],
-    fa: Layout,
-    row: &[i32],
-    fb: Layout,
-    i: usize,
-    x: &mut [i32; 256],
-) -> Outcome
-    requires { ⌜ InSheet (now col) fa × InSheet (now row) fb × (i < fa .order) × (fb .row < fb .order)
-        × Bounded (limitOf (run .task)) (now x) × (length (now x) ≡ 256) ⌝ }
-    ensures { λ r. ⌜ RowDone (limitOf (run .task)) (elementBy run (now (col .entry)) fa (now (row .entry)) fb (now (x .entry)))
-        (rowOrder (run .task) fb i) (fb .order) (now (x .entry)) (now (x .exit)) (r .ok) ⌝ }
-{
-    let task = run.task;
-    let rule = run.rule;
-    match task {
-        Task::Forward => return apply_row(rule, col, fa, row, fb, i, x),
-        Task::Inverse => return undo_row(rule, col, fa, row, fb, i, x),
-        Task::Allowance => return allow_row(rule, col, fa, row, fb, i, x),
-    }
 }

@@ -23,7 +23,7 @@ pub fn with_sum(sum: i64, a: i32, v: i64) -> i64
 }
 
 // The m numbers of a from place p on, each times one of v from place k on.
-fn wide_sum(a: &[i32], p: usize, v: &[i64; 16], k: usize, m: usize) -> i64
+pub fn wide_sum(a: &[i32], p: usize, v: &[i64; 16], k: usize, m: usize) -> i64
     requires { ⌜ Wide (now a) p (now v) k m ⌝ }
     ensures { λ s. ⌜ s ≡ sum m (λ j. at (now (a .entry)) (p + j) *ℤ at (now (v .entry)) (k + j)) ⌝ }
 {
@@ -123,4 +123,34 @@ pub fn joint_sum(
     ensures { λ s. ⌜ s ≡ jointSum (now (a .entry)) r m diagonal other (now (v .entry)) x ⌝ }
 {
     whole_sum(a, r, m, diagonal, v, without(v[m], other, x))
+}
+
+pub fn sum_ending(
+    a: &[i32],
+    p: usize,
+    v: &[i64; 16],
+    k: usize,
+    m: usize,
+    last: i64,
+    own: i64,
+) -> i64 {
+    if m == 0 {
+        return own;
+    }
+    with_sum(own + wide_sum(a, p, v, k, m - 1), a[p + (m - 1)], last)
+}
+
+pub fn sum_starting(
+    a: &[i32],
+    p: usize,
+    v: &[i64; 16],
+    k: usize,
+    m: usize,
+    first: i64,
+    own: i64,
+) -> i64 {
+    if m == 0 {
+        return own;
+    }
+    with_sum(own + wide_sum(a, p + 1, v, k + 1, m - 1), a[p], first)
 }

