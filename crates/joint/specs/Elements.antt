@@ -47,6 +47,10 @@ module _ (rule : Rule) (s : List ℤ) (f : Layout) (j : ℕ) (d : ℤ) (v : List
   unfoldable pub undoneAt : ℤ
   undoneAt = (d *ℤ signAt s f j) *ℤ (x -ℤ roundedSum)
 
+-- an element from a sum that has its own term, which comes off before the sum is rounded
+unfoldable pub appliedFrom : Rule → ℤ → ℤ → ℤ → ℤ → ℤ
+appliedFrom rule s d e x = ((d *ℤ e) *ℤ x) +ℤ R rule unit² (s -ℤ ((diagonalOf d *ℤ diagonalOf e) *ℤ x))
+
 -- the same where v has nothing of the element's own number
 unfoldable pub roundedRest : Rule → List ℤ → Layout → ℕ → List ℤ → ℤ
 roundedRest rule s f j v = R rule unit² (across s (rowOf f j) j (diagonalOf (signAt s f j)) (at v))

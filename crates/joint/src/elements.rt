@@ -142,20 +142,31 @@ pub fn undone_at(rule: Rule, row: &[i32], f: Layout, j: usize, d: i32, v: &[i64;
     )
 }
 
-// A sum, and the diagonal's weight times the number of its own column.
-pub fn with_diagonal(sum: i64, d: i32, w: i64) -> i64 {
-    sum + 4096 * turned(d, w)
-}
-
 // d times a number: a sign turns it, which is faster than a product.
-fn turned(d: i32, w: i64) -> i64 {
+pub fn turned(d: i32, w: i64) -> i64
+    requires { ⌜ Sign d × SFits w64 (d *ℤ w) ⌝ }
+    ensures { λ r. ⌜ r ≡ d *ℤ w ⌝ }
+{
     if d < 0 {
         return -w;
     }
     w
 }
 
-pub fn applied_whole(rule: Rule, s: i64, d: i32, e: i32, x: i32) -> i64 {
+// A sum, and a diagonal's weight, of the sign d, times the number w of its own column.
+pub fn with_diagonal(sum: i64, d: i32, w: i64) -> i64
+    requires { ⌜ Within mostJoint sum × Sign d × Within mostColumn w ⌝ }
+    ensures { λ r. ⌜ r ≡ sum +ℤ (diagonalOf d *ℤ w) ⌝ }
+{
+    sum + 4096 * turned(d, w)
+}
+
+// What an element becomes whose sum s has its own term in it: the number x, times the signs d of its row and e of its column. The
+// own term is a whole number of 16777216, so it passes through this rounding and need not be taken off.
+pub fn applied_whole(rule: Rule, s: i64, d: i32, e: i32, x: i32) -> i64
+    requires { ⌜ Within mostJoint s × Sign d × Sign e × Within bound x ⌝ }
+    ensures { λ r. ⌜ r ≡ appliedFrom rule s d e x ⌝ }
+{
     match rule {
         Rule::Nearest => return round_joint(rule, s),
     }
