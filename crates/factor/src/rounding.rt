@@ -55,16 +55,16 @@ pub fn applied(d: i32, x: i32, q: i64) -> i64
     (d as i64) * (x as i64) + q
 }
 
-// d·(y - q): an element undone. A sign turns the number, which is faster than a product.
+// d·(y - q): an element undone. The sign is tested, which is faster than a product: the next sum waits for this number.
 pub fn undone(d: i32, y: i32, q: i64) -> i64
     requires { ⌜ Sign d × SFits w64 y × SFits w64 (y -ℤ q) × SFits w64 (d *ℤ (y -ℤ q)) ⌝ }
     ensures { λ r. ⌜ r ≡ d *ℤ (y -ℤ q) ⌝ }
 {
-    let z = (y as i64) - q;
+    let w = (y as i64) - q;
     if d < 0 {
-        return -z;
+        return -w;
     }
-    z
+    w
 }
 
 // b + q + share: an allowance, and what a stage adds to it.

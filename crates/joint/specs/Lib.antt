@@ -3,3 +3,4 @@ pub mod Elements
 pub mod Allowances
 pub mod RecoveredSums
 pub mod RowsInPlace
+pub mod Triangles

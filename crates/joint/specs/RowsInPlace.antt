@@ -3,13 +3,14 @@
 use mathlib.Core.Bool.{Bool, true, false}
 use mathlib.Core.List.{List}
 use mathlib.Core.Path.{_≡_, refl, sym, ap, _∙_, subst}
-use Prim.Native.Nat.{ℕ, zero, suc, _+_, _*_, _≤_, _<_}
+use Prim.Native.Nat.{ℕ, zero, suc, _+_, _-_, _*_, _≤_, _<_}
 use native.Mathlib.Nat.{add-suc, add-zero}
 use native.Mathlib.Nat as NatL
 use native.Mathlib.Omega.{arith}
 use lib.Dec.{leb}
 use lib.IntN.{ℤ, pos, natAbs}
-use lib.ListN.{length}
+use lib.ListN.{length, set}
+use Rattle.laws.specs.Tests.{apart}
 use Rattle.rules.specs.declared.Rule.{Rule}
 use Rattle.rules.specs.Numbers.{unit, at}
 use Rattle.rules.specs.Stages.{fill, inside}
@@ -86,12 +87,99 @@ unfolding inPlace
 steps-same f g q zero x h = refl
 steps-same f g q (suc m) x h = rw (steps-same f g q m x (λ u l. h u (omega arith)), h m (omega arith) (inPlace g q m x))
 
+-- the same, where only the blocks on the way are looked at
+steps-along : (f g : List ℤ → ℕ → ℤ) (q : ℕ → ℕ) (m : ℕ) (x : List ℤ) →
+    ((u : ℕ) → u < m → f (inPlace f q u x) (q u) ≡ g (inPlace f q u x) (q u)) → inPlace f q m x ≡ inPlace g q m x
+unfolding inPlace
+steps-along f g q zero x h = refl
+steps-along f g q (suc m) x h =
+    rw (h m (omega arith), steps-along f g q m x (λ u l. h u (omega arith)))
+
+-- orders that name the same elements
+orders-same : (step : List ℤ → ℕ → ℤ) (p q : ℕ → ℕ) (m : ℕ) (x : List ℤ) → ((u : ℕ) → u < m → p u ≡ q u) →
+    inPlace step p m x ≡ inPlace step q m x
+unfolding inPlace
+orders-same step p q zero x e = refl
+orders-same step p q (suc m) x e = rw (orders-same step p q m x (λ u l. e u (omega arith)), e m (omega arith))
+
 -- what is set in place goes on from where it stands
 in-place-on : (step : List ℤ → ℕ → ℤ) (p q : ℕ → ℕ) (a b : ℕ) (x : List ℤ) → ((u : ℕ) → u < b → p (a + u) ≡ q u) →
     inPlace step q b (inPlace step p a x) ≡ inPlace step p (a + b) x
 unfolding inPlace
 in-place-on step p q a zero x e = rw add-zero
 in-place-on step p q a (suc b) x e = rw (in-place-on step p q a b x (λ u l. e u (omega arith)), add-suc, e b (omega arith))
+
+-- an order from turn a on
+abbrev pub onward : (ℕ → ℕ) → ℕ → ℕ → ℕ
+onward q a u = q (a + u)
+
+-- one turn more
+pub run-next : (step : List ℤ → ℕ → ℤ) (q : ℕ → ℕ) (a j : ℕ) (x : List ℤ) {y : List ℤ} → a ≤ j →
+    y ≡ inPlace step (onward q a) (j - a) x → set y (q j) (step y (q j)) ≡ inPlace step (onward q a) (j + 1 - a) x
+unfolding inPlace
+run-next step q a j x {y} l w =
+    let e : j + 1 - a ≡ suc (j - a) = omega arith in
+    let f : a + (j - a) ≡ j = omega arith in
+    rw (e, f, w)
+
+-- a number beyond the bound in turn j
+pub run-stops : {most : ℕ} (step : List ℤ → ℕ → ℤ) (q : ℕ → ℕ) (a b j : ℕ) (x : List ℤ) {y : List ℤ} → a ≤ j → j < b →
+    y ≡ inPlace step (onward q a) (j - a) x → leb (natAbs (step y (q j))) most ≡ false → Stopped most step (onward q a) (b - a) x
+run-stops step q a b j x l k w far =
+    let f : a + (j - a) ≡ j = omega arith in record { turn = j - a; before = omega arith; far = rw (f, ← w) far }
+
+-- a run after a run
+module _ {most a : ℕ} (b : ℕ) {step : List ℤ → ℕ → ℤ} {q : ℕ → ℕ} {x y : List ℤ} where
+  pub run-stopped : RowDone most step q a x y false → RowDone most step q (a + b) x y false
+  run-stopped h = record {
+    through = λ t. apart (sym t);
+    stopped = λ t. let s = h .stopped refl in
+        record { turn = s .turn; before = let l = s .before in omega arith; far = s .far };
+    keeps = h .keeps;
+  }
+
+  pub run-on : {z : List ℤ} {ok : Bool} → RowDone most step q a x y true → RowDone most step (onward q a) b y z ok →
+      RowDone most step q (a + b) x z ok
+  run-on {z} {ok} h k = record {
+    through = λ t. (k .through t .0 ∙ ap (inPlace step (onward q a) b) (h .through refl .0)
+        ∙ in-place-on step q (onward q a) a b x (λ u l. refl), k .through t .1);
+    stopped = λ t.
+        let s = k .stopped t in
+        let e = ap (inPlace step (onward q a) (s .turn)) (h .through refl .0)
+            ∙ in-place-on step q (onward q a) a (s .turn) x (λ u l. refl) in
+        record { turn = a + s .turn; before = let l = s .before in omega arith; far = rw e at (s .far) };
+    keeps = k .keeps ∙ h .keeps;
+  }
+
+-- orders that name the same elements
+pub run-order : {most m : ℕ} {step : List ℤ → ℕ → ℤ} {x y : List ℤ} {ok : Bool} (p q : ℕ → ℕ) → ((u : ℕ) → u < m → p u ≡ q u) →
+    RowDone most step p m x y ok → RowDone most step q m x y ok
+run-order {step} {x} p q e h = record {
+  through = λ t. (h .through t .0 ∙ orders-same step p q _ x e, h .through t .1);
+  stopped = λ t.
+      let s = h .stopped t in
+      record {
+        turn = s .turn;
+        before = s .before;
+        far = rw (orders-same step p q (s .turn) x (λ u l. e u (let b = s .before in omega arith)), e (s .turn) (s .before)) at
+            (s .far);
+      };
+  keeps = h .keeps;
+}
+
+-- steps that make the same number in each turn
+pub row-done-along : {most m : ℕ} {q : ℕ → ℕ} {x y : List ℤ} {ok : Bool} (f g : List ℤ → ℕ → ℤ) →
+    ((u : ℕ) → u < m → f (inPlace f q u x) (q u) ≡ g (inPlace f q u x) (q u)) → RowDone most f q m x y ok →
+    RowDone most g q m x y ok
+row-done-along {q} {x} f g e h = record {
+  through = λ t. (h .through t .0 ∙ steps-along f g q _ x e, h .through t .1);
+  stopped = λ t.
+      let s = h .stopped t in
+      let l = s .before in
+      let w = steps-along f g q (s .turn) x (λ u k. e u (omega arith)) in
+      record { turn = s .turn; before = l; far = rw (← w) (rw (e (s .turn) l) at (s .far)) };
+  keeps = h .keeps;
+}
 
 -- the element whose turn it is, as it was before the row
 pub row-ahead : (step : List ℤ → ℕ → ℤ) (n i j : ℕ) (x : List ℤ) {y : List ℤ} → y ≡ inPlace step (inRow n i) j x →

@@ -1,14 +1,18 @@
 // One element of a pair of factors: d is the sign of its row, v the sums of its row over the columns, x its number.
 ghost use mathlib.Core.Path.{_≡_};
 ghost use Prim.Native.Nat.{_+_, _<_};
-ghost use lib.IntN.{pos, _*ℤ_};
-ghost use mir.Syntax.{w32};
+ghost use lib.IntN.{pos, _+ℤ_, _*ℤ_};
+ghost use mir.Syntax.{w32, w64};
 ghost use mir.Val.{SFits};
+ghost use Rattle.whole.specs.Diff.{Within};
+ghost use Rattle.whole.specs.Laws.{Sign};
+ghost use Rattle.rules.specs.Numbers.{bound};
 ghost use Rattle.factor.specs.SumBounds.{Bounded};
 ghost use Rattle.factor.specs.LayoutInSheet.{InSheet};
 ghost use Rattle.joint.specs.Sums.{mostColumn};
 ghost use Rattle.joint.specs.Elements.{signAt, diagonalOf, sumsAt, restSumsAt};
 ghost use Rattle.joint.specs.Elements.{RowGiven, ElementGiven, roundedSum, roundedRest, appliedAt, undoneRest};
+ghost use Rattle.joint.specs.Elements.{mostJoint, appliedFrom, undoneFrom};
 use crate::sums::column_sums;
 use crate::sums::joint_sum;
 use crate::sums::rest_sums;
@@ -170,4 +174,12 @@ pub fn applied_whole(rule: Rule, s: i64, d: i32, e: i32, x: i32) -> i64
     match rule {
         Rule::Nearest => return round_joint(rule, s),
     }
+}
+
+// What an element was whose sum s has nothing of its own number.
+pub fn undone_whole(rule: Rule, s: i64, d: i32, e: i32, x: i32) -> i64
+    requires { ⌜ Within mostJoint s × Sign d × Sign e × Within bound x ⌝ }
+    ensures { λ r. ⌜ r ≡ undoneFrom rule s d e x ⌝ }
+{
+    undone(both_signs(d, e), x, round_joint(rule, s))
 }

@@ -2,5 +2,5 @@
 mod sums; // the sum of an element in two steps: over the columns, then over a row of such sums
 mod elements; // one element applied and undone
 mod allowances; // one element's allowance
-mod triangles;
+mod applied; // a row under a lower or an upper factor, applied
 pub mod rows; // one row of elements

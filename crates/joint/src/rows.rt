@@ -21,16 +21,14 @@ use crate::elements::sign_at;
 use crate::elements::sums_at;
 use crate::elements::undone_at;
 use crate::sums::with_sum;
-use crate::triangles::apply_lower_row;
-use crate::triangles::apply_upper_row;
-use crate::triangles::undo_lower_row;
-use crate::triangles::undo_upper_row;
 use factor::Layout;
 use factor::nth_undone;
 use factor::rounding::is_within;
 use factor::run::Outcome;
 use factor::run::Run;
 use factor::run::Task;
+use crate::applied::apply_lower_row;
+use crate::applied::apply_upper_row;
 use rules::Block;
 use rules::Kind;
 use rules::Rule;
@@ -49,16 +47,31 @@ pub fn apply_row(
     ensures { λ r. ⌜ RowDone bound (plain (appliedOf rule (now (col .entry)) fa (now (row .entry)) fb (now (x .entry))))
         (inRow (fb .order) i) (fb .order) (now (x .entry)) (now (x .exit)) (r .ok) ⌝ }
 {
+    let kind = fb.kind;
+    match kind {
+        Kind::Lower => return apply_lower_row(rule, col, fa, row, fb, i, x),
+        Kind::Upper => return apply_upper_row(rule, col, fa, row, fb, i, x),
+        Kind::Single => return apply_any_row(rule, col, fa, row, fb, i, x),
+        Kind::Permutation => return apply_any_row(rule, col, fa, row, fb, i, x),
+    }
+}
+
+fn apply_any_row(
+    rule: Rule,
+    col: &[i32],
+    fa: Layout,
+    row: &[i32],
+    fb: Layout,
+    i: usize,
+    x: &mut [i32; 256],
+) -> Outcome
+    requires { ⌜ InSheet (now col) fa × InSheet (now row) fb × (i < fa .order) × Bounded bound (now x) ⌝ }
+    ensures { λ r. ⌜ RowDone bound (plain (appliedOf rule (now (col .entry)) fa (now (row .entry)) fb (now (x .entry))))
+        (inRow (fb .order) i) (fb .order) (now (x .entry)) (now (x .exit)) (r .ok) ⌝ }
+{
     let n = fb.order;
     let mut v = [0i64; 16];
     sums_at(col, fa, i, x, n, &mut v);
-    let kind = fb.kind;
-    match kind {
-        Kind::Lower => return apply_lower_row(rule, row, fb, sign_at(col, fa, i), &v, i * n, x),
-        Kind::Upper => return apply_upper_row(rule, row, fb, sign_at(col, fa, i), &v, i * n, x),
-        Kind::Single => {}
-        Kind::Permutation => {}
-    }
     for j in 0..n {
         let e = i * n + j;
         let z = applied_at(rule, row, fb, j, sign_at(col, fa, i), &v, x[e]);
@@ -93,13 +106,6 @@ pub fn undo_row(
     let n = fb.order;
     let mut v = [0i64; 16];
     rest_sums_at(col, fa, i, x, n, &mut v);
-    let kind = fb.kind;
-    match kind {
-        Kind::Lower => return undo_lower_row(rule, row, fb, sign_at(col, fa, i), &mut v, i * n, x),
-        Kind::Upper => return undo_upper_row(rule, row, fb, sign_at(col, fa, i), &mut v, i * n, x),
-        Kind::Single => {}
-        Kind::Permutation => {}
-    }
     for u in 0..n {
         let j = nth_undone(fb, u);
         let e = i * n + j;

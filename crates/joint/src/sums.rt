@@ -124,33 +124,3 @@ pub fn joint_sum(
 {
     whole_sum(a, r, m, diagonal, v, without(v[m], other, x))
 }
-
-pub fn sum_ending(
-    a: &[i32],
-    p: usize,
-    v: &[i64; 16],
-    k: usize,
-    m: usize,
-    last: i64,
-    own: i64,
-) -> i64 {
-    if m == 0 {
-        return own;
-    }
-    with_sum(own + wide_sum(a, p, v, k, m - 1), a[p + (m - 1)], last)
-}
-
-pub fn sum_starting(
-    a: &[i32],
-    p: usize,
-    v: &[i64; 16],
-    k: usize,
-    m: usize,
-    first: i64,
-    own: i64,
-) -> i64 {
-    if m == 0 {
-        return own;
-    }
-    with_sum(own + wide_sum(a, p + 1, v, k + 1, m - 1), a[p], first)
-}
