@@ -4,3 +4,4 @@ pub mod Allowances
 pub mod RecoveredSums
 pub mod RowsInPlace
 pub mod Triangles
+pub mod TrianglesUndone

@@ -167,6 +167,21 @@ run-order {step} {x} p q e h = record {
   keeps = h .keeps;
 }
 
+-- a run of m turns from the first on, and one that follows it up to turn m; n is how many turns there are
+pub run-all : {most : ℕ} {step : List ℤ → ℕ → ℤ} {x y : List ℤ} {ok : Bool} (q : ℕ → ℕ) (m : ℕ) {n : ℕ} → n ≡ m →
+    RowDone most step (onward q 0) (m - 0) x y ok → RowDone most step q n x y ok
+run-all q m e h =
+    let z : m - 0 ≡ m = omega arith in
+    rw e (run-order (onward q 0) q (λ u l. let f : 0 + u ≡ u = omega arith in ap q f) (rw z at h))
+
+pub run-both : {most : ℕ} {step : List ℤ → ℕ → ℤ} {x y z : List ℤ} {ok : Bool} (q : ℕ → ℕ) (a m : ℕ) {n : ℕ} → n ≡ m → a ≤ m →
+    RowDone most step q a x y true → RowDone most step (onward q a) (m - a) y z ok → RowDone most step q n x z ok
+run-both q a m e l h k = let f : a + (m - a) ≡ m = omega arith in rw e (rw f at (run-on (m - a) h k))
+
+pub run-short : {most : ℕ} {step : List ℤ → ℕ → ℤ} {x y : List ℤ} {ok : Bool} (q : ℕ → ℕ) (a m : ℕ) {n : ℕ} → n ≡ m → a ≤ m →
+    ok ≡ false → RowDone most step q a x y ok → RowDone most step q n x y ok
+run-short q a m e l t h = let f : a + (m - a) ≡ m = omega arith in rw (e, t) (rw f at (run-stopped (m - a) (rw t at h)))
+
 -- steps that make the same number in each turn
 pub row-done-along : {most m : ℕ} {q : ℕ → ℕ} {x y : List ℤ} {ok : Bool} (f g : List ℤ → ℕ → ℤ) →
     ((u : ℕ) → u < m → f (inPlace f q u x) (q u) ≡ g (inPlace f q u x) (q u)) → RowDone most f q m x y ok →

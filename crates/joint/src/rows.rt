@@ -43,7 +43,7 @@ pub fn apply_row(
     i: usize,
     x: &mut [i32; 256],
 ) -> Outcome
-    requires { ⌜ InSheet (now col) fa × InSheet (now row) fb × (i < fa .order) × Bounded bound (now x) ⌝ }
+    requires { ⌜ InSheet (now col) fa × InSheet (now row) fb × (i < fa .order) × Bounded bound (now x) × (0 < fb .order) ⌝ }
     ensures { λ r. ⌜ RowDone bound (plain (appliedOf rule (now (col .entry)) fa (now (row .entry)) fb (now (x .entry))))
         (inRow (fb .order) i) (fb .order) (now (x .entry)) (now (x .exit)) (r .ok) ⌝ }
 {

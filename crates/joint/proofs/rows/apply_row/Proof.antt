@@ -13,7 +13,7 @@ enum-told c = search needs
 
 -- src/rows.rt:52:24
 apply-lower-row-requires : tie.Need-apply-lower-row-requires
-apply-lower-row-requires c κs = ?
+apply-lower-row-requires c κs = search needs
 
 -- src/rows.rt:52:24
 returns : tie.Need-returns
@@ -25,7 +25,7 @@ enum-told-2 c = search needs
 
 -- src/rows.rt:53:24
 apply-upper-row-requires : tie.Need-apply-upper-row-requires
-apply-upper-row-requires c κs = ?
+apply-upper-row-requires c κs = search needs
 
 -- src/rows.rt:53:24
 returns-2 : tie.Need-returns-2
