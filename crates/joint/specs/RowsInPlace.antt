@@ -141,12 +141,15 @@ module _ {most a : ℕ} (b : ℕ) {step : List ℤ → ℕ → ℤ} {q : ℕ →
   pub run-on : {z : List ℤ} {ok : Bool} → RowDone most step q a x y true → RowDone most step (onward q a) b y z ok →
       RowDone most step q (a + b) x z ok
   run-on {z} {ok} h k = record {
-    through = λ t. (k .through t .0 ∙ ap (inPlace step (onward q a) b) (h .through refl .0)
-        ∙ in-place-on step q (onward q a) a b x (λ u l. refl), k .through t .1);
+    through = λ t. (
+      k .through t .0 ∙ ap (inPlace step (onward q a) b) (h .through refl .0)
+          ∙ in-place-on step q (onward q a) a b x (λ u l. refl),
+      k .through t .1,
+    );
     stopped = λ t.
         let s = k .stopped t in
         let e = ap (inPlace step (onward q a) (s .turn)) (h .through refl .0)
-            ∙ in-place-on step q (onward q a) a (s .turn) x (λ u l. refl) in
+        ∙ in-place-on step q (onward q a) a (s .turn) x (λ u l. refl) in
         record { turn = a + s .turn; before = let l = s .before in omega arith; far = rw e at (s .far) };
     keeps = k .keeps ∙ h .keeps;
   }

@@ -1,4 +1,5 @@
 -- ROWS UNDER A LOWER OR AN UPPER FACTOR THAT ARE UNDONE: the sums with what is recovered, and the latest of them.
+use mathlib.Core.Bool.{Bool, true}
 use mathlib.Core.List.{List}
 use mathlib.Core.Logic.{_≢_}
 use mathlib.Core.Path.{_≡_, refl, sym, ap, _∙_}
@@ -11,16 +12,18 @@ use Rattle.whole.specs.Diff.{lia}
 use Rattle.whole.specs.Sum.{sum, sum-first}
 use Rattle.rules.specs.declared.Rule.{Rule}
 use Rattle.rules.specs.declared.Kind.the-variants.{Lower, Upper}
+use Rattle.rules.specs.Factors.{above}
 use Rattle.rules.specs.Numbers.{unit, bound, at}
+use Rattle.rules.specs.Laws.Lists.{length-fill}
 use Rattle.factor.specs.declared.Layout.{Layout}
-use Rattle.factor.specs.SumBounds.{Bounded}
-use Rattle.factor.specs.LayoutInSheet.{InSheet}
+use Rattle.factor.specs.SumBounds.{Bounded, bounded-le}
+use Rattle.factor.specs.LayoutInSheet.{InSheet, row-wide}
 use Rattle.factor.specs.UndoingOrder.{nthUndone}
-use Rattle.joint.specs.Sums.{Wide, mostColumn}
-use Rattle.joint.specs.Elements.{signAt, undoneFrom, roundedRest, undoneRest}
-use Rattle.joint.specs.RowsInPlace.{inRow}
+use Rattle.joint.specs.Sums.{Wide, mostColumn, restSums, rest-sums-small}
+use Rattle.joint.specs.Elements.{signAt, restSumsAt, undoneFrom, roundedRest, undoneRest}
+use Rattle.joint.specs.RowsInPlace.{RowDone, inRow}
 use Rattle.joint.specs.Triangles.{totalOf}
-use Rattle.joint.specs.RecoveredSums.{RecoveredSums}
+use Rattle.joint.specs.RecoveredSums.{RecoveredSums, recovered-sums-start}
 
 -- ---- definitions
 -- the largest own term
@@ -112,3 +115,44 @@ pub undone-from : (rule : Rule) (s : List ℤ) (f : Layout) (j : ℕ) (d : ℤ) 
     undoneFrom rule (totalOf s f j v) d (signAt s f j) x ≡ undoneRest rule s f j d v x
 unfolding undoneFrom undoneRest roundedRest
 undone-from rule s f j d v x = refl
+
+-- the entries above a row of an upper factor, and its own
+pub above-step : (n t : ℕ) → t < n → above n (n - t) ≡ above n (n - 1 - t) + t
+unfolding above
+above-step n t l =
+    let e : n - t ≡ suc (n - 1 - t) = omega arith in
+    let f : n - suc (n - 1 - t) ≡ t = omega arith in
+    rw (e, f)
+
+-- what the next run asks, after one that every number passed
+pub undo-given : {c r x v y w : List ℤ} {fa fb : Layout} {i a b m : ℕ} {step : List ℤ → ℕ → ℤ} {q : ℕ → ℕ} {ok : Bool} →
+    UndoGiven c fa r fb i a x v → RowDone bound step q m x y ok → ok ≡ true → Recovered c fa i fb b y w →
+    UndoGiven c fa r fb i b y w
+undo-given g h t k = record {
+  column = g .column;
+  row = g .row;
+  below = g .below;
+  low = g .low;
+  small = h .through t .1;
+  long = h .keeps ∙ g .long;
+  recovered = k;
+}
+
+-- before the first turn
+pub undo-start : (c : List ℤ) (fa : Layout) (r : List ℤ) (fb : Layout) (i : ℕ) (x : List ℤ) {v : List ℤ} → InSheet c fa → InSheet r fb →
+    i < fa .order → fb .row < fb .order → Bounded bound x → length x ≡ 256 → v ≡ restSumsAt c fa i x (fb .order) →
+    UndoGiven c fa r fb i 0 x v
+unfolding restSums
+undo-start c fa r fb i x a b l o h n e = record {
+  column = a;
+  row = b;
+  below = l;
+  low = o;
+  small = h;
+  long = n;
+  recovered = record {
+    sums = recovered-sums-start c fa i fb o (b .order) x e;
+    small = rw e (rest-sums-small (fb .order) (row-wide (a .order) (a .row i l)) (bounded-le (omega arith) h));
+    long = ap length e ∙ length-fill _ _ _;
+  };
+}

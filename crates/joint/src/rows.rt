@@ -14,6 +14,8 @@ ghost use Rattle.joint.specs.RowsInPlace.{RowDone, inRow, plain, element
 use crate::allowances::allowed_at;
 use crate::allowances::is_whole_row;
 use crate::allowances::magnitude_sums_at;
+use crate::applied::apply_lower_row;
+use crate::applied::apply_upper_row;
 use crate::elements::applied_at;
 use crate::elements::diagonal_of;
 use crate::elements::rest_sums_at;
@@ -27,8 +29,6 @@ use factor::rounding::is_within;
 use factor::run::Outcome;
 use factor::run::Run;
 use factor::run::Task;
-use crate::applied::apply_lower_row;
-use crate::applied::apply_upper_row;
 use rules::Block;
 use rules::Kind;
 use rules::Rule;

@@ -71,8 +71,13 @@ with-sum-requires : tie.Need-with-sum-requires
 with-sum-requires c κs =
     let w = c .before in
     let s = w .before .before in
-    rw (sum-is w, toZ-ofZ (s .fits .own), latest (w .before), reads w32 (entry (w .before)) tt,
-    reads w64 (within-+ (s .pre .1) (sum-small w)) tt) (
+    rw (
+      sum-is w,
+      toZ-ofZ (s .fits .own),
+      latest (w .before),
+      reads w32 (entry (w .before)) tt,
+      reads w64 (within-+ (s .pre .1) (sum-small w)) tt,
+    ) (
       fits (entry (w .before)) tt,
       fits (within-* (entry (w .before)) (s .pre .0 .numbers .small _)) tt,
       fits (within-+ (within-+ (s .pre .1) (sum-small w)) (within-* (entry (w .before)) (s .pre .0 .numbers .small _))) tt,
@@ -83,8 +88,13 @@ returns-2 c =
     let w = c .before .before in
     let s = w .before .before in
     back w64 _ (c .with-sum .ok) ∙ c .with-sum .ensures
-    ∙ rw (sum-is w, toZ-ofZ (s .fits .own), latest (w .before), reads w32 (entry (w .before)) tt,
-    reads w64 (within-+ (s .pre .1) (sum-small w)) tt)
+    ∙ rw (
+      sum-is w,
+      toZ-ofZ (s .fits .own),
+      latest (w .before),
+      reads w32 (entry (w .before)) tt,
+      reads w64 (within-+ (s .pre .1) (sum-small w)) tt,
+    )
     (apart-last (s .args .own) (sum (s .args .m - 1) (T s)) (T s (s .args .m - 1))
     ∙ ap (λ (z : ℤ). s .args .own +ℤ z) (sum-last (s .args .m) (T s) (w .before .if1 .left)))
   where

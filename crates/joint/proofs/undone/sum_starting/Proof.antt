@@ -63,8 +63,6 @@ entry c =
 latest : (c : tie.Else1) → toZ w64 (ofZ w64 (c .before .args .first)) ≡ at (c .before .args .v .now) (c .before .args .k)
 latest c = toZ-ofZ (c .before .fits .first) ∙ c .before .pre .2 (let h = c .if1 .left in omega arith)
 
-
-
 mul-with-sum : tie.Need-mul-with-sum
 mul-with-sum c = search needs
 
@@ -75,8 +73,13 @@ with-sum-requires : tie.Need-with-sum-requires
 with-sum-requires c κs =
     let w = c .before in
     let s = w .before .before in
-    rw (sum-is w, toZ-ofZ (s .fits .own), latest (w .before), reads w32 (entry (w .before)) tt,
-    reads w64 (within-+ (s .pre .1) (sum-small w)) tt) (
+    rw (
+      sum-is w,
+      toZ-ofZ (s .fits .own),
+      latest (w .before),
+      reads w32 (entry (w .before)) tt,
+      reads w64 (within-+ (s .pre .1) (sum-small w)) tt,
+    ) (
       fits (entry (w .before)) tt,
       fits (within-* (entry (w .before)) (s .pre .0 .numbers .small _)) tt,
       fits (within-+ (within-+ (s .pre .1) (sum-small w)) (within-* (entry (w .before)) (s .pre .0 .numbers .small _))) tt,
@@ -87,8 +90,13 @@ returns-2 c =
     let w = c .before .before in
     let s = w .before .before in
     back w64 _ (c .with-sum .ok) ∙ c .with-sum .ensures
-    ∙ rw (sum-is w, toZ-ofZ (s .fits .own), latest (w .before), reads w32 (entry (w .before)) tt,
-    reads w64 (within-+ (s .pre .1) (sum-small w)) tt)
+    ∙ rw (
+      sum-is w,
+      toZ-ofZ (s .fits .own),
+      latest (w .before),
+      reads w32 (entry (w .before)) tt,
+      reads w64 (within-+ (s .pre .1) (sum-small w)) tt,
+    )
     (first-apart s ∙ ap (λ (z : ℤ). s .args .own +ℤ z) (sum-head (s .args .m) (T s) (w .before .if1 .left)))
   where
     first-apart : (s : tie.Start) →
