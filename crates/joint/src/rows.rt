@@ -10,6 +10,7 @@ ghost use Rattle.factor.specs.LayoutInSheet.{InSheet};
 ghost use Rattle.factor.specs.Tasks.{limitOf};
 ghost use Rattle.joint.specs.Elements.{appliedOf, undoneOf};
 ghost use Rattle.joint.specs.Allowances.{allowedOf};
+ghost use Rattle.joint.specs.TrianglesUndone.{undoneTurn};
 ghost use Rattle.joint.specs.RowsInPlace.{RowDone, inRow, plain, elementBy, rowOrder};
 use crate::allowances::allowed_at;
 use crate::allowances::is_whole_row;
@@ -23,6 +24,8 @@ use crate::elements::sign_at;
 use crate::elements::sums_at;
 use crate::elements::undone_at;
 use crate::sums::with_sum;
+use crate::undone::undo_lower_row;
+use crate::undone::undo_upper_row;
 use factor::Layout;
 use factor::nth_undone;
 use factor::rounding::is_within;
@@ -86,9 +89,33 @@ fn apply_any_row(
     Outcome { ok: true, stage: 0 }
 }
 
+// Row i undone in place, in the order of the row sheet's factor.
+pub fn undo_row(
+    rule: Rule,
+    col: &[i32],
+    fa: Layout,
+    row: &[i32],
+    fb: Layout,
+    i: usize,
+    x: &mut [i32; 256],
+) -> Outcome
+    requires { ⌜ InSheet (now col) fa × InSheet (now row) fb × (i < fa .order) × (fb .row < fb .order)
+        × Bounded bound (now x) × (length (now x) ≡ 256) ⌝ }
+    ensures { λ r. ⌜ RowDone bound (undoneOf rule (now (col .entry)) fa (now (row .entry)) fb) (undoneTurn fb i) (fb .order)
+        (now (x .entry)) (now (x .exit)) (r .ok) ⌝ }
+{
+    let kind = fb.kind;
+    match kind {
+        Kind::Lower => return undo_lower_row(rule, col, fa, row, fb, i, x),
+        Kind::Upper => return undo_upper_row(rule, col, fa, row, fb, i, x),
+        Kind::Single => return undo_any_row(rule, col, fa, row, fb, i, x),
+        Kind::Permutation => return undo_any_row(rule, col, fa, row, fb, i, x),
+    }
+}
+
 // Row i undone in place, in the order of the row sheet's factor. A number goes into the row's sums when it is recovered:
 // nothing looks at it before.
-pub fn undo_row(
+fn undo_any_row(
     rule: Rule,
     col: &[i32],
     fa: Layout,

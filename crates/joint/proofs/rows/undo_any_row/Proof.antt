@@ -21,8 +21,8 @@ use Rattle.joint.specs.Elements.{signAt, diagonalOf, undoneOf, diagonal-
 use Rattle.joint.specs.RecoveredSums.{RecoveredSums, recovered-sums-start, recovered-sums-next, recovered-sums-small}
 use Rattle.joint.specs.RecoveredSums.{recovered-sums-undo}
 use Rattle.joint.specs.RowsInPlace.{inRow, undone-here, in-block}
-use Rattle.joint.proofs.rows.undo_row.Statement.{statement}
-use Rattle.joint.proofs.rows.undo_row.Tie as tie
+use Rattle.joint.proofs.rows.undo_any_row.Statement.{statement}
+use Rattle.joint.proofs.rows.undo_any_row.Tie as tie
 
 abbrev Inv-loop : tie.InvT-loop
 Inv-loop rule col fa row fb i x₀ n v₀ u₀ x v u =
@@ -274,8 +274,8 @@ returns-2 c =
       keeps = ap length (l .inv .1) ∙ length-in-place _ _ (l .u) _;
     }
 
-pub undo-row-spec : {M : Type 1} → statement M
-undo-row-spec =
+pub undo-any-row-spec : {M : Type 1} → statement M
+undo-any-row-spec =
     tie.close
     (tie.spec Inv-loop μ-loop rest-sums-at-requires loop-holds nth-undone-requires mul-e add-e sign-at-requires mul-undone-at
     element-copy-out-undone-at undone-at-requires is-within-requires returns cast-x mul-with-sum element-set-from-with-sum
