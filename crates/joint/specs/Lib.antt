@@ -4,3 +4,5 @@ pub mod Allowances
 pub mod RecoveredSums
 pub mod RowsInPlace
 pub mod Triangles
+pub mod SingleRows
+pub mod SingleRowsInPlace
