@@ -28,6 +28,7 @@ use Rattle.factor.specs.Rounding.{rounded-within}
 use Rattle.factor.specs.SumBounds.{Bounded, RowIn}
 use Rattle.joint.specs.Sums.{entriesSum, columnSums, jointSum, entries-small}
 use Rattle.joint.specs.Elements.{signAt, diagonalOf, sumsAt, roundedSum, appliedAt, undoneAt, appliedOf, undoneOf, band-at}
+use Rattle.joint.specs.Triangles.{totalOf}
 use Rattle.joint.specs.RowsInPlace.{applied-here, undone-here}
 
 -- ---- definitions
@@ -48,6 +49,10 @@ pub record Turned (s : List ℤ) (f : Layout) (d : ℤ) (k m : ℕ) (x y : List 
   pub each : (j : ℕ) → j < m → at y (k + j) ≡ (d *ℤ signAt s f j) *ℤ at x (k + j)
   pub other : (e : ℕ) → ((j : ℕ) → j < m → k + j ≢ e) → at y e ≡ at x e
   pub long : length y ≡ length x
+
+-- a factor with entries in its row alone
+abbrev pub OneRow : Layout → Type 0
+OneRow f = (m : ℕ) → m ≢ f .row → rowOf f m ≡ row (f .entries) 0 0
 
 -- ---- what the code asks
 -- m entries of a from place p on, and numbers of the block from place k on
@@ -139,9 +144,9 @@ minus-zero : (z : ℤ) → z -ℤ pos 0 ≡ z
 minus-zero z = simp lia (omega arith)
 
 -- ---- rows without entries
-without-entries : (f : Layout) (m : ℕ) → f .kind ≡ Single → m ≢ f .row → rowOf f m ≡ row (f .entries) 0 0
+pub one-row : (f : Layout) → f .kind ≡ Single → OneRow f
 unfolding rowBy
-without-entries f m e q = rw (e, ne-eqb m (f .row) q)
+one-row f e m q = rw (e, ne-eqb m (f .row) q)
 
 no-sum : (s : List ℤ) (p m : ℕ) (g : ℕ → ℤ) → entriesSum s (row p 0 0) m g ≡ pos 0
 unfolding entriesSum sum
@@ -175,7 +180,7 @@ module _ (c : List ℤ) (fa : Layout) (i : ℕ) (single : fa .kind ≡ Single) (
   unfolding columnSums
   own-sums m b =
       fill-at (fb .order) _ (replicate 16 (pos 0)) m b (h .order)
-      ∙ rw (without-entries fa i single beside, no-sum c (fa .entries) i (λ t. at x (t * fb .order + m)))
+      ∙ rw (one-row fa single i beside, no-sum c (fa .entries) i (λ t. at x (t * fb .order + m)))
       (+ℤ-idl (diagonalOf d *ℤ at x (k + m)))
 
   rounded-beside : (rule : Rule) →
@@ -214,7 +219,7 @@ module _ (c : List ℤ) (fa : Layout) (i : ℕ) (single : fa .kind ≡ Single) (
     no-rounding : (rule : Rule) → R rule unit (d *ℤ besideSum s fb j k x) ≡ pos 0
     unfolding besideSum
     no-rounding rule =
-        rw (without-entries fb j single′ beside′, no-sum s (fb .entries) j (λ m. at x (k + m)), mul-zero d) (rounds-nothing rule)
+        rw (one-row fb single′ j beside′, no-sum s (fb .entries) j (λ m. at x (k + m)), mul-zero d) (rounds-nothing rule)
 
     pub applied-corner : (rule : Rule) →
         appliedOf rule c fa s fb x (i * fb .order + j) ≡ (signAt c fa i *ℤ signAt s fb j) *ℤ at x (i * fb .order + j)
@@ -230,3 +235,8 @@ pub applied-column : (rule : Rule) (c : List ℤ) (fa : Layout) (i : ℕ) → fa
     appliedBeside rule s fb (signAt c fa i) (i * fb .order) x ≡ appliedOf rule c fa s fb x (i * fb .order + fb .row)
 unfolding appliedBeside
 applied-column rule c fa i e q {fb} h x l = sym (applied-beside c fa i e q h x (fb .row) l rule)
+
+-- the whole sum of an element beside column q
+pub total-beside : (s : List ℤ) (f : Layout) (j : ℕ) (v : List ℤ) → OneRow f → j ≢ f .row →
+    pos 0 +ℤ (diagonalOf (signAt s f j) *ℤ at v j) ≡ totalOf s f j v
+total-beside s f j v o q = rw (o j q, no-sum s (f .entries) j (at v))

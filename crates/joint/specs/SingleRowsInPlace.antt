@@ -7,6 +7,7 @@ use mathlib.Core.Path.{_≡_, refl, sym, ap, ap₂, _∙_}
 use Prim.Native.Nat.{ℕ, zero, suc, _+_, _-_, _*_, _≤_, _<_}
 use native.Mathlib.Decide.{ℕ-discrete, decLt}
 use native.Mathlib.Nat.{le-refl}
+use native.Mathlib.Numerals.{add-one}
 use native.Mathlib.Omega.{arith}
 use borrow.Author.Tests.{le-ltb}
 use lib.Dec.{leb}
@@ -46,6 +47,16 @@ module _ {most m : ℕ} {step : List ℤ → ℕ → ℤ} {q : ℕ → ℕ} {x y
 
   pub row-beyond : length y ≡ length x → Stopped most step q m x → RowDone most step q m x y false
   row-beyond l h = record { through = λ t. absurd (true-false t refl); stopped = λ _. h; keeps = l }
+
+-- a number beyond the bound in turn j, and a turn more
+pub turn-beyond : {most m : ℕ} (step : List ℤ → ℕ → ℤ) (q : ℕ → ℕ) (j : ℕ) (x : List ℤ) {y : List ℤ} → j < m →
+    y ≡ inPlace step q j x → leb (natAbs (step y (q j))) most ≡ false → Stopped most step q m x
+turn-beyond step q j x l w far = record { turn = j; before = l; far = rw (← w) far }
+
+pub turn-next : (step : List ℤ → ℕ → ℤ) (q : ℕ → ℕ) (j : ℕ) (x : List ℤ) {y : List ℤ} → y ≡ inPlace step q j x →
+    set y (q j) (step y (q j)) ≡ inPlace step q (j + 1) x
+unfolding inPlace
+turn-next step q j x w = rw (add-one, w)
 
 -- ---- turned element by element
 module _ {s : List ℤ} {f : Layout} {d : ℤ} {k : ℕ} where

@@ -16,11 +16,21 @@ ghost use Rattle.factor.specs.SumBounds.{Bounded};
 ghost use Rattle.factor.specs.LayoutInSheet.{InSheet};
 ghost use Rattle.joint.specs.Elements.{appliedOf, undoneOf};
 ghost use Rattle.joint.specs.RowsInPlace.{RowDone, inRow, plain};
-ghost use Rattle.joint.specs.SingleRows.{Narrow, LineGiven, besideSum, appliedBeside, undoneBeside, Turned};
+ghost use Rattle.joint.specs.Triangles.{TotalGiven, totalOf, RunGiven, appliedIn};
+ghost use Rattle.joint.specs.SingleRows.{OneRow, Narrow, LineGiven, besideSum, appliedBeside, undoneBeside, Turned};
+use crate::elements::applied_whole;
 use crate::elements::both_signs;
+use crate::elements::diagonal_of;
+use crate::elements::rest_sums_at;
 use crate::elements::sign_at;
+use crate::elements::sums_at;
 use crate::elements::turned;
+use crate::elements::undone_at;
+use crate::elements::with_diagonal;
+use crate::sums::whole_sum;
+use crate::sums::with_sum;
 use factor::Layout;
+use factor::nth_undone;
 use factor::rounding::applied;
 use factor::rounding::is_within;
 use factor::rounding::round_line;
@@ -178,4 +188,165 @@ fn undo_beside(
     }
     x[k + q] = z as i32;
     Outcome { ok: true, stage: 0 }
+}
+
+// The whole sum of the element in column q, v the sums of its row over the columns.
+fn column_total(row: &[i32], f: Layout, v: &[i64; 16]) -> i64
+    requires { ⌜ TotalGiven (now row) f (f .row) (now v) ⌝ }
+    ensures { λ s. ⌜ s ≡ totalOf (now (row .entry)) f (f .row) (now (v .entry)) ⌝ }
+{
+    let q = f.row;
+    whole_sum(
+        row,
+        row_of(f, q),
+        q,
+        diagonal_of(sign_at(row, f, q)),
+        v,
+        v[q],
+    )
+}
+
+// That of the element in column j: beside column q, whose total is lent, it is the diagonal's term alone.
+fn crossing_total(row: &[i32], f: Layout, j: usize, total: i64, v: &[i64; 16]) -> i64
+    requires { ⌜ TotalGiven (now row) f j (now v) × OneRow f × (total ≡ totalOf (now row) f (f .row) (now v)) ⌝ }
+    ensures { λ s. ⌜ s ≡ totalOf (now (row .entry)) f j (now (v .entry)) ⌝ }
+{
+    let q = f.row;
+    if j == q {
+        return total;
+    }
+    with_diagonal(0, sign_at(row, f, j), v[j])
+}
+
+// The elements of the row with entries, which starts at place k and has the sign d and the sums v, applied.
+fn apply_elements(
+    rule: Rule,
+    row: &[i32],
+    f: Layout,
+    d: i32,
+    v: &[i64; 16],
+    k: usize,
+    x: &mut [i32; 256],
+) -> Outcome
+    requires { ⌜ RunGiven (now row) f d (now v) k (now x) × (f .row < f .order) × OneRow f ⌝ }
+    ensures { λ r. ⌜ RowDone bound (appliedIn rule (now (row .entry)) f d (now (v .entry)) k) (λ u. k + u) (f .order)
+        (now (x .entry)) (now (x .exit)) (r .ok) ⌝ }
+{
+    let n = f.order;
+    let total = column_total(row, f, v);
+    for j in 0..n {
+        let s = crossing_total(row, f, j, total, v);
+        let z = applied_whole(rule, s, d, sign_at(row, f, j), x[k + j]);
+        if !is_within(z, Block::SAMPLE) {
+            return Outcome {
+                ok: false,
+                stage: 1,
+            };
+        }
+        x[k + j] = z as i32;
+    }
+    Outcome { ok: true, stage: 0 }
+}
+
+// The row with entries, applied: an element looks at the row's sums, made before, and at its own number.
+pub fn apply_crossing(
+    rule: Rule,
+    col: &[i32],
+    fa: Layout,
+    row: &[i32],
+    fb: Layout,
+    i: usize,
+    x: &mut [i32; 256],
+) -> Outcome
+    requires { ⌜ InSheet (now col) fa × InSheet (now row) fb × (i < fa .order) × Bounded bound (now x)
+        × (fb .row < fb .order) × OneRow fb ⌝ }
+    ensures { λ r. ⌜ RowDone bound (plain (appliedOf rule (now (col .entry)) fa (now (row .entry)) fb (now (x .entry))))
+        (inRow (fb .order) i) (fb .order) (now (x .entry)) (now (x .exit)) (r .ok) ⌝ }
+{
+    let n = fb.order;
+    let mut v = [0i64; 16];
+    sums_at(col, fa, i, x, n, &mut v);
+    apply_elements(rule, row, fb, sign_at(col, fa, i), &v, i * n, x)
+}
+
+// The same undone, in the order of the row sheet's factor. A number goes into the row's sums when it is recovered: nothing looks
+// at it before.
+pub fn undo_crossing(
+    rule: Rule,
+    col: &[i32],
+    fa: Layout,
+    row: &[i32],
+    fb: Layout,
+    i: usize,
+    x: &mut [i32; 256],
+) -> Outcome
+    requires { ⌜ InSheet (now col) fa × InSheet (now row) fb × (i < fa .order) × (fb .row < fb .order)
+        × Bounded bound (now x) × (length (now x) ≡ 256) ⌝ }
+    ensures { λ r. ⌜ RowDone bound (undoneOf rule (now (col .entry)) fa (now (row .entry)) fb)
+        (λ u. inRow (fb .order) i (nthUndone (fb .kind) (fb .order) (fb .row) u)) (fb .order)
+        (now (x .entry)) (now (x .exit)) (r .ok) ⌝ }
+{
+    let n = fb.order;
+    let mut v = [0i64; 16];
+    rest_sums_at(col, fa, i, x, n, &mut v);
+    for u in 0..n {
+        let j = nth_undone(fb, u);
+        let e = i * n + j;
+        let d = sign_at(col, fa, i);
+        let z = undone_at(rule, row, fb, j, d, &v, x[e]);
+        if !is_within(z, Block::SAMPLE) {
+            return Outcome {
+                ok: false,
+                stage: 1,
+            };
+        }
+        x[e] = z as i32;
+        v[j] = with_sum(v[j], diagonal_of(d), z);
+    }
+    Outcome { ok: true, stage: 0 }
+}
+
+// Row i of a pair of single-row factors, applied.
+pub fn apply_single_row(
+    rule: Rule,
+    col: &[i32],
+    fa: Layout,
+    row: &[i32],
+    fb: Layout,
+    i: usize,
+    x: &mut [i32; 256],
+) -> Outcome
+    requires { ⌜ InSheet (now col) fa × InSheet (now row) fb × (i < fa .order) × (fb .row < fb .order)
+        × (fa .kind ≡ Single) × (fb .kind ≡ Single) × Bounded bound (now x) × (length (now x) ≡ 256) ⌝ }
+    ensures { λ r. ⌜ RowDone bound (plain (appliedOf rule (now (col .entry)) fa (now (row .entry)) fb (now (x .entry))))
+        (inRow (fb .order) i) (fb .order) (now (x .entry)) (now (x .exit)) (r .ok) ⌝ }
+{
+    let r = fa.row;
+    if i == r {
+        return apply_crossing(rule, col, fa, row, fb, i, x);
+    }
+    apply_beside(rule, col, fa, row, fb, i, x)
+}
+
+// The same undone.
+pub fn undo_single_row(
+    rule: Rule,
+    col: &[i32],
+    fa: Layout,
+    row: &[i32],
+    fb: Layout,
+    i: usize,
+    x: &mut [i32; 256],
+) -> Outcome
+    requires { ⌜ InSheet (now col) fa × InSheet (now row) fb × (i < fa .order) × (fb .row < fb .order)
+        × (fa .kind ≡ Single) × (fb .kind ≡ Single) × Bounded bound (now x) × (length (now x) ≡ 256) ⌝ }
+    ensures { λ r. ⌜ RowDone bound (undoneOf rule (now (col .entry)) fa (now (row .entry)) fb)
+        (λ u. inRow (fb .order) i (nthUndone (fb .kind) (fb .order) (fb .row) u)) (fb .order)
+        (now (x .entry)) (now (x .exit)) (r .ok) ⌝ }
+{
+    let r = fa.row;
+    if i == r {
+        return undo_crossing(rule, col, fa, row, fb, i, x);
+    }
+    undo_beside(rule, col, fa, row, fb, i, x)
 }
