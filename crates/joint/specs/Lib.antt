@@ -5,3 +5,5 @@ pub mod RecoveredSums
 pub mod RowsInPlace
 pub mod Triangles
 pub mod TrianglesUndone
+pub mod SingleRows
+pub mod SingleRowsInPlace

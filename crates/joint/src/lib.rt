@@ -4,4 +4,5 @@ mod elements; // one element applied and undone
 mod allowances; // one element's allowance
 mod applied; // a row under a lower or an upper factor, applied
 mod undone; // the same, undone
+mod single; // a row under single-row factors
 pub mod rows; // one row of elements
