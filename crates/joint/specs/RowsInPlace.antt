@@ -2,6 +2,7 @@
 -- beyond it.
 use mathlib.Core.Bool.{Bool, true, false}
 use mathlib.Core.List.{List}
+use mathlib.Core.Logic.{_≢_}
 use mathlib.Core.Path.{_≡_, refl, sym, ap, _∙_, subst}
 use Prim.Native.Nat.{ℕ, zero, suc, _+_, _-_, _*_, _≤_, _<_}
 use native.Mathlib.Nat.{add-suc, add-zero}
@@ -12,7 +13,8 @@ use lib.IntN.{ℤ, pos, natAbs}
 use lib.ListN.{length, set}
 use Rattle.laws.specs.Tests.{apart}
 use Rattle.rules.specs.declared.Rule.{Rule}
-use Rattle.rules.specs.Numbers.{unit, at}
+use Rattle.rules.specs.declared.Kind.the-variants.{Permutation}
+use Rattle.rules.specs.Numbers.{unit, bound, at}
 use Rattle.rules.specs.Stages.{fill, inside}
 use Rattle.rules.specs.Laws.GoodStages.{Permutes}
 use Rattle.rules.specs.Laws.Lists.{length-fill, fill-at, fill-past, same-list}
@@ -22,6 +24,7 @@ use Rattle.factor.specs.declared.run.Task.{Task}
 use Rattle.factor.specs.declared.run.Task.the-variants.{Forward, Inverse, Allowance}
 use Rattle.factor.specs.declared.run.Run.{Run}
 use Rattle.factor.specs.Layouts.{rowOf}
+use Rattle.factor.specs.LayoutInSheet.{InSheet}
 use Rattle.factor.specs.UndoingOrder.{nthUndone}
 use Rattle.factor.specs.Tasks.{isInverse}
 use Rattle.factor.specs.SumBounds.{Bounded, beyond-there}
@@ -40,6 +43,17 @@ pub record RowDone (most : ℕ) (step : List ℤ → ℕ → ℤ) (q : ℕ → �
   pub through : ok ≡ true → (y ≡ inPlace step q m x) × Bounded most y
   pub stopped : ok ≡ false → Stopped most step q m x
   pub keeps : length y ≡ length x
+
+-- what row i asks: two factors of one kind that has weights, and a block in bound
+pub record RowAsks (c : List ℤ) (fa : Layout) (r : List ℤ) (fb : Layout) (i : ℕ) (x : List ℤ) : Type 0 where
+  pub column : InSheet c fa
+  pub row : InSheet r fb
+  pub below : i < fa .order
+  pub low : fb .row < fb .order
+  pub small : Bounded bound x
+  pub long : length x ≡ 256
+  pub alike : fa .kind ≡ fb .kind
+  pub weighs : fb .kind ≢ Permutation
 
 -- the elements of row i of rows of n, in reading order
 abbrev pub inRow : ℕ → ℕ → ℕ → ℕ
