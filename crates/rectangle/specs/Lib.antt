@@ -1,6 +1,7 @@
 pub mod Multiples
 pub mod Weights
 pub mod UndoingOrder
+pub mod RowsInTurn
 pub mod Moves
 pub mod StagesAgree
 pub mod Runs
