@@ -3,6 +3,7 @@ pub mod Weights
 pub mod UndoingOrder
 pub mod RowsInTurn
 pub mod Moves
+pub mod MovedAside
 pub mod StagesAgree
 pub mod Runs
 pub mod Promises

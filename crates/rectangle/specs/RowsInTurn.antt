@@ -1,5 +1,5 @@
--- THE ROWS OF A PAIR OF FACTORS WITH WEIGHTS, one in each turn: what the block holds after some of them. Each is as from the block
--- before all rows (`row-unwritten`, `element-same`).
+-- THE ROWS OF A PAIR OF FACTORS WITH WEIGHTS, one in each turn: what the block holds after some of them. Each is as from the
+-- block before all rows (`row-unwritten`, `element-same`).
 use mathlib.Core.Bool.{Bool, true, false}
 use mathlib.Core.List.{List}
 use mathlib.Core.Path.{_≡_, refl, ap, _∙_}

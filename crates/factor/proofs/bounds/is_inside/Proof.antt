@@ -59,7 +59,8 @@ loop-again : tie.Need-loop-again Inv-loop μ-loop
 loop-again c =
     let w = c .before in
     let l = w .before .before .before .loop in
-    let told = rw (back w64 _ (w .wide .ok), w .wide .ensures, back w32 _ (w .before .wide-arg .given)) at (c .is-within .ensures) in
+    let told = rw (back w64 _ (w .wide .ok), w .wide .ensures, back w32 _ (w .before .wide-arg .given)) at
+    (c .is-within .ensures) in
     (omega arith, more _ (l .k) (l .inv .1) told)
 
 returns : tie.Need-returns Inv-loop μ-loop

@@ -49,9 +49,10 @@ unfolding limitOf elementOf rowOrder
 loop-again c =
     let r = c .before .before in
     let t = r .before .before .before in
-    let more = row-more (t .before .before .pre) (t .loop-test .taken) (t .before .loop .inv .1) (r .before .before .nth-row .ensures)
-    (r .apply-row .ensures) (not-false _ (c .if1 .left)) in
-    (omega arith, more)
+    let h = t .before .before .pre in
+    let turn = r .before .before .nth-row .ensures in
+    let through = not-false _ (c .if1 .left) in
+    (omega arith, row-more h (t .loop-test .taken) (t .before .loop .inv .1) turn (r .apply-row .ensures) through)
 
 returns-2 : tie.Need-returns-2 Inv-loop μ-loop
 returns-2 c =
@@ -60,4 +61,5 @@ returns-2 c =
 
 pub apply-rows-spec : {M : Type 1} → statement M
 apply-rows-spec =
-    tie.close (tie.spec Inv-loop μ-loop loop-holds nth-row-requires apply-row-requires returns add-s loop-less loop-again returns-2)
+    tie.close
+    (tie.spec Inv-loop μ-loop loop-holds nth-row-requires apply-row-requires returns add-s loop-less loop-again returns-2)
