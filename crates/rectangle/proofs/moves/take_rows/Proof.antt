@@ -1,6 +1,6 @@
 -- The first i rows are taken (`row-taken`).
 use mathlib.Core.Path.{_≡_}
-use Prim.Native.Nat.{_+_, _-_, _*_, _≤_, _<_}
+use Prim.Native.Nat.{_+_, _-_, _*_, _≤_}
 use native.Mathlib.Nat.{mul-le-mul-right}
 use native.Mathlib.Omega.{arith}
 use Rattle.rectangle.specs.MovedAside.{Taken, no-row-taken, row-taken}

@@ -1,7 +1,7 @@
 -- After t stages the run is that of the stages left (`stage-passes`), and the block is in bound.
 use borrow.Author.Tests.{not-true, not-false}
 use mathlib.Core.List.{List}
-use mathlib.Core.Path.{_≡_, ap, _∙_}
+use mathlib.Core.Path.{_≡_, _∙_}
 use Prim.Native.Nat.{ℕ, _-_, _≤_, _<_}
 use native.Mathlib.Omega.{arith}
 use lib.IntN.{ℤ}
