@@ -25,13 +25,13 @@ returns c =
     let i = c .before .before in
     let s = i .before in
     run-out _ _ (s .args .x .now) _ (sym (i .is-inside .ensures) ∙ not-true _ (c .before .if1 .taken)) (c .refused .ensures)
-    (s .args .run) (s .pre .1)
+    (s .args .run) (s .pre .2)
 
 -- the lent numbers fit into the array
 few : (s : tie.Start) → length (s .args .x .now) ≤ 16
 few s =
     let m = accepted-order (s .pre .0) .most in
-    omega (arith, s .pre .1, inputs-most (s .args .run .task) (count (s .args .s .now) 0))
+    omega (arith, s .pre .2, inputs-most (s .args .run .task) (count (s .args .s .now) 0))
 
 load-requires : tie.Need-load-requires
 load-requires c κs = few (c .before .before)
@@ -41,6 +41,7 @@ run-stages-requires c κs =
     let e = c .before in
     let s = e .before .before in (
       s .pre .0,
+      s .pre .1,
       rw (c .load .ensures) (start-bounded 16 (s .args .run .task) (s .args .x .now)
           (sym (e .before .is-inside .ensures) ∙ not-false _ (e .if1 .left))),
     )
@@ -51,7 +52,7 @@ finish-requires c κs =
     let s = a .before .before .before .before in
     let m = accepted-order (s .pre .0) .most in
     let l : length (a .run-stages .result .block) ≡ 16 = search needs in
-    omega (arith, s .pre .2)
+    omega (arith, s .pre .3)
 
 same-length : tie.Need-same-length
 same-length c = search needs
@@ -63,7 +64,7 @@ returns-2 c =
     let s = a .before .before .before .before in
     let x = s .args .x .now in
     let y = s .args .y .now in
-    rw (← (run-ends 16 (stages-good (s .pre .0)) x y (s .pre .2) (s .args .run) (s .pre .1) (accepted-order (s .pre .0) .most)))
+    rw (← (run-ends 16 (stages-good (s .pre .0)) x y (s .pre .3) (s .args .run) (s .pre .2) (accepted-order (s .pre .0) .most)))
     (rw (run-ended-reply _ (rw (a .before .load .ensures) at (a .run-stages .ensures)) (paddedBlock 16 x)
     (numberOf (s .args .run .task)) y)
     at (f .finish .ensures))
