@@ -1,13 +1,18 @@
--- THE ROUNDING RULE as the code computes it, and how large a rounded number becomes.
-use mathlib.Core.Path.{_≡_, refl}
+-- THE ROUNDING RULE as the code computes it, and how large a rounded number becomes; a sign by its test.
+use mathlib.Core.Bool.{true, false}
+use mathlib.Core.Logic.{inl, inr}
+use mathlib.Core.Path.{_≡_, refl, sym}
 use Prim.Native.Nat.{ℕ, _+_, _/_}
-use lib.IntN.{ℤ, pos, _+ℤ_}
-use lib.Signed.{shrZ}
-use Rattle.whole.specs.Diff.{Within}
+use native.Mathlib.Omega.{arith}
+use lib.IntN.{ℤ, pos, _+ℤ_, _-ℤ_, _*ℤ_}
+use lib.Signed.{shrZ, ltZ}
+use Rattle.whole.specs.Diff.{lia, Within}
+use Rattle.whole.specs.Laws.{Sign}
 use Rattle.whole.specs.Machine.{within-+, within-pos, within-shr}
 use Rattle.rules.specs.declared.Rule.{Rule}
 use Rattle.rules.specs.declared.Rule.the-variants.{Nearest}
 use Rattle.rules.specs.Stages.{R, share}
+use Rattle.laws.specs.Tests.{apart}
 
 pub rounds-as : (rule : Rule) (S : ℕ) (s : ℤ) → R rule S s ≡ shrZ (s +ℤ pos (S / 2)) S
 unfolding R
@@ -19,3 +24,11 @@ share-is Nearest = refl
 
 pub rounded-within : {M : ℕ} {s : ℤ} (rule : Rule) (S : ℕ) → Within M s → Within (M + S / 2) (R rule S s)
 rounded-within rule S h = rw (rounds-as rule S _) (within-shr S (within-+ h (within-pos (S / 2))))
+
+pub sign-below : {d : ℤ} (z : ℤ) → Sign d → ltZ d (pos 0) ≡ true → d *ℤ z ≡ pos 0 -ℤ z
+sign-below z (inl e) t = apart (sym (rw e at t))
+sign-below z (inr e) t = rw e (simp lia (omega arith))
+
+pub sign-above : {d : ℤ} (z : ℤ) → Sign d → ltZ d (pos 0) ≡ false → d *ℤ z ≡ z
+sign-above z (inl e) t = rw e (simp lia (omega arith))
+sign-above z (inr e) t = apart (rw e at t)

@@ -85,7 +85,7 @@ pub fn layout_at(sheet: &[i32], n: usize, i: usize) -> Layout
 }
 
 // How many entries of a lower factor stand above row m.
-fn before_lower(m: usize) -> usize
+pub fn before_lower(m: usize) -> usize
     requires { ⌜ m ≤ mostOrder ⌝ }
     ensures { λ r. ⌜ r ≡ triangle m ⌝ }
 {

@@ -5,6 +5,7 @@ ghost use lib.IntN.{pos, natAbs, _+ℤ_, _-ℤ_, _*ℤ_};
 ghost use lib.Signed.{nonNeg, shrZ};
 ghost use mir.Syntax.{w64};
 ghost use mir.Val.{SFits};
+ghost use Rattle.whole.specs.Laws.{Sign};
 ghost use Rattle.rules.specs.Numbers.{unit, unit²};
 ghost use Rattle.rules.specs.Stages.{R, share};
 use rules::Rule;
@@ -54,12 +55,16 @@ pub fn applied(d: i32, x: i32, q: i64) -> i64
     (d as i64) * (x as i64) + q
 }
 
-// d·(y - q): an element undone.
+// d·(y - q): an element undone. The sign is tested, which is faster than a product: the next sum waits for this number.
 pub fn undone(d: i32, y: i32, q: i64) -> i64
-    requires { ⌜ SFits w64 d × SFits w64 y × SFits w64 (y -ℤ q) × SFits w64 (d *ℤ (y -ℤ q)) ⌝ }
+    requires { ⌜ Sign d × SFits w64 y × SFits w64 (y -ℤ q) × SFits w64 (d *ℤ (y -ℤ q)) ⌝ }
     ensures { λ r. ⌜ r ≡ d *ℤ (y -ℤ q) ⌝ }
 {
-    (d as i64) * ((y as i64) - q)
+    let w = (y as i64) - q;
+    if d < 0 {
+        return -w;
+    }
+    w
 }
 
 // b + q + share: an allowance, and what a stage adds to it.

@@ -2,4 +2,5 @@ pub mod Steps
 pub mod LineBounds
 pub mod StagesAgree
 pub mod Runs
+pub mod Fours
 pub mod Promises

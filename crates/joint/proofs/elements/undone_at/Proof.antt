@@ -45,7 +45,7 @@ undone-requires c κs =
     let x = s .pre .4 in
     let q = rounded-rest-small (s .pre .0) (s .args .j) (s .pre .1) (s .pre .3) (s .args .rule) in
     rw (told c, signs (c .before), toZ-ofZ (s .fits .x))
-    (fits (sign-within e) tt, fits x tt, fits (within-- x q) tt, fits (within-sign e (within-- x q)) tt)
+    (e, fits x tt, fits (within-- x q) tt, fits (within-sign e (within-- x q)) tt)
 
 returns : tie.Need-returns
 unfolding undoneRest

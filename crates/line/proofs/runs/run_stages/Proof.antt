@@ -1,35 +1,21 @@
 -- After t stages the run is that of the stages left (`stage-passes`), and the block is in bound.
-use borrow.Author.Needs.{needs}
 use borrow.Author.Tests.{not-true, not-false}
-use mathlib.Core.List.{List}
-use mathlib.Core.Path.{_≡_, _∙_}
+use mathlib.Core.Path.{_≡_}
 use Prim.Native.Nat.{ℕ, _-_, _≤_, _<_}
 use native.Mathlib.Omega.{arith}
-use lib.IntN.{ℤ}
-use lib.ListN.{getD}
 use Rattle.rules.specs.Numbers.{mostOrder, count}
-use Rattle.rules.specs.Stages.{run}
-use Rattle.rules.specs.Answers.{start}
-use Rattle.rules.specs.Laws.Runs.{loop-start}
 use Rattle.laws.specs.Accepted.{accepted-order, accepted-count, order-counts, count-counts}
-use Rattle.factor.specs.declared.run.Run.{Run}
-use Rattle.factor.specs.Tasks.{limitOf, nthStage, takenBy, runBy, stage-below}
+use Rattle.factor.specs.Tasks.{limitOf, nthStage, takenBy, stage-below}
 use Rattle.factor.specs.PaddedBlocks.{run-ended-done, run-ended-stop}
 use Rattle.factor.specs.Steps.{Step}
-use Rattle.factor.specs.StageLoops.{Stands, stage-passes, stage-stops, stages-done}
-use Rattle.line.specs.Runs.{lineStagesOf, at-stage, left, left-listed, left-all}
+use Rattle.factor.specs.StageLoops.{stage-passes, stage-stops, stages-done}
+use Rattle.line.specs.Runs.{at-stage, left-listed, RunAt, run-starts}
 use Rattle.line.proofs.runs.run_stages.Statement.{statement}
 use Rattle.line.proofs.runs.run_stages.Tie as tie
 
--- the run that is asked for, after t stages
-abbrev At : Run → List ℤ → List ℤ → ℕ → List ℤ → Type 0
-At r s x t v =
-    Stands (limitOf (r .task)) (count s 0) (takenBy r (count s 0)) (left s (count s 0) (count s 1) (r .task))
-    (runBy r (count s 0) (lineStagesOf s) x) t v
-
 abbrev Inv-loop : tie.InvT-loop
 Inv-loop run sheet starts x task n many v₀ t₀ v t =
-    (t ≤ many) × (n ≡ count sheet 0) × (many ≡ count sheet 1) × At run sheet x t v
+    (t ≤ many) × (n ≡ count sheet 0) × (many ≡ count sheet 1) × RunAt run sheet x t v
 
 abbrev μ-loop : tie.MeasureT-loop
 μ-loop run sheet starts x task n many v₀ t₀ v t = many - t
@@ -52,12 +38,7 @@ count-at-requires-2 c κs = count-counts (c .before .pre .0)
 loop-holds : tie.Need-loop-holds Inv-loop μ-loop
 loop-holds c =
     let s = c .before .before in
-    let all = left-all (s .args .sheet .now) (s .args .run .task) in (
-      omega arith,
-      c .before .count-at .ensures,
-      c .count-at2 .ensures,
-      record { small = s .pre .2; left = rw all (loop-start _ _ _ _) },
-    )
+    (omega arith, c .before .count-at .ensures, c .count-at2 .ensures, run-starts (s .args .run) (s .args .sheet .now) (s .pre .2))
 
 -- the stage in turn
 in-turn : (c : tie.In-loop Inv-loop μ-loop) → c .before .loop .t < count (c .before .before .before .before .args .sheet .now) 1

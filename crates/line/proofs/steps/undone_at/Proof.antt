@@ -34,7 +34,7 @@ undone-requires c κs =
     let x = s .pre .2 .small (s .args .m) in
     let q = rounded-sum-small (s .pre .0) (s .args .m) (s .pre .1) (s .args .rule) (s .pre .2) in
     rw (c .rounded-sum-at .ensures, reads w64 q tt, reads w32 (sign-within d) tt, reads w32 x tt)
-    (fits (sign-within d) tt, fits x tt, fits (within-- x q) tt, fits (within-sign d (within-- x q)) tt)
+    (d, fits x tt, fits (within-- x q) tt, fits (within-sign d (within-- x q)) tt)
 
 returns : tie.Need-returns
 unfolding undoneAt
