@@ -13,7 +13,8 @@ use rules::Rule;
 use sheet::factors::count_at;
 use sheet::factors::starts_of;
 
-mod steps; // what a factor does to the elements
+mod steps; // one element; what a factor does to allowances
+mod kinds; // a loop for each kind
 mod stages; // one stage: the factor at a place of the sheet
 mod runs; // all stages of a sheet
 mod fours; // blocks of four
