@@ -1,7 +1,7 @@
 -- THE TURNS OF EACH KIND ARE THE DOCUMENT'S STAGE: at order four its definitions compute, element by element.
 use mathlib.Core.Bool.{Bool, true, false}
 use mathlib.Core.List.{List, [], _∷_}
-use mathlib.Core.Path.{_≡_, refl, sym, ap, ap₂, _∙_, subst}
+use mathlib.Core.Path.{_≡_, refl, sym, ap₂, _∙_, subst}
 use Prim.Native.Nat.{ℕ, zero, suc, _+_, _<_}
 use native.Mathlib.Omega.{arith}
 use lib.IntN.{ℤ, pos, _+ℤ_, _*ℤ_, zero-*ℤ}
@@ -47,7 +47,8 @@ module _ (rule : Rule) (back : Bool) (s : List ℤ) (i : ℕ) (x : List ℤ) whe
   abbrev pub staged : List ℤ
   staged = stageOn back rule 4 (lineStage 4 (factorAt s 4 i)) x
 
-  known : {kind : Kind} {r : ℕ} → kindOf (count s i) ≡ kind → count s (i + 1) ≡ r → stageOn back rule 4 (stageAt kind r s i) x ≡ staged
+  known : {kind : Kind} {r : ℕ} → kindOf (count s i) ≡ kind → count s (i + 1) ≡ r →
+      stageOn back rule 4 (stageAt kind r s i) x ≡ staged
   unfolding stageAt factorAt
   known k e = ap₂ (λ (kind : Kind) (r : ℕ). stageOn back rule 4 (stageAt kind r s i) x) (sym k) (sym e)
 
@@ -71,8 +72,8 @@ module _ (rule : Rule) (back : Bool) (s : List ℤ) (i : ℕ) (x : List ℤ) whe
         subst (λ (y : List ℤ). f y ≡ stageOn back rule 4 (stageAt kind r s i) y) (sym (four-list x l)) e
 
     pub lower-is : kindOf (count s i) ≡ Lower → lowerBy rule s (i + 1) back x ≡ staged
-    unfolding elementBy rowSum entryAt stageOn stageAt forward undo recover order byTurn those turn inRow lineStage stageOf factorAt
-        fill weighed sum off matrix hasEntry entriesBefore signsAt triangle
+    unfolding elementBy rowSum entryAt stageOn stageAt forward undo recover order byTurn those turn inRow lineStage stageOf
+        factorAt fill weighed sum off matrix hasEntry entriesBefore signsAt triangle
     lower-is k = by-list (lowerBy rule s (i + 1) back) Lower (count s (i + 1)) (go back) ∙ known k refl
       where
         go : (b : Bool) → lowerBy rule s (i + 1) b listed ≡ stageOn b rule 4 (stageAt Lower (count s (i + 1)) s i) listed
@@ -80,17 +81,18 @@ module _ (rule : Rule) (back : Bool) (s : List ℤ) (i : ℕ) (x : List ℤ) whe
         go true = refl
 
     pub upper-is : kindOf (count s i) ≡ Upper → upperBy rule s (i + 1) back x ≡ staged
-    unfolding elementBy rowSum entryAt stageOn stageAt forward undo recover order byTurn those turn inRow lineStage stageOf factorAt
-        fill weighed sum off matrix hasEntry entriesBefore signsAt above
+    unfolding elementBy rowSum entryAt stageOn stageAt forward undo recover order byTurn those turn inRow lineStage stageOf
+        factorAt fill weighed sum off matrix hasEntry entriesBefore signsAt above
     upper-is k = by-list (upperBy rule s (i + 1) back) Upper (count s (i + 1)) (go back) ∙ known k refl
       where
         go : (b : Bool) → upperBy rule s (i + 1) b listed ≡ stageOn b rule 4 (stageAt Upper (count s (i + 1)) s i) listed
         go false = refl
         go true = refl
 
-    single-listed : (b : Bool) (r : ℕ) → r < 4 → singleBy rule s (i + 2) b r listed ≡ stageOn b rule 4 (stageAt Single r s i) listed
-    unfolding elementBy rowSum entryAt stageOn stageAt forward undo recover order byTurn those turn inRow lineStage stageOf factorAt
-        fill off matrix hasEntry entriesBefore signsAt
+    single-listed : (b : Bool) (r : ℕ) → r < 4 →
+        singleBy rule s (i + 2) b r listed ≡ stageOn b rule 4 (stageAt Single r s i) listed
+    unfolding elementBy rowSum entryAt stageOn stageAt forward undo recover order byTurn those turn inRow lineStage stageOf
+        factorAt fill off matrix hasEntry entriesBefore signsAt
     single-listed b (suc (suc (suc (suc r)))) l = absurd (omega arith)
     single-listed false zero l = simp weighed-four
     single-listed false (suc zero) l = simp weighed-four
@@ -101,5 +103,6 @@ module _ (rule : Rule) (back : Bool) (s : List ℤ) (i : ℕ) (x : List ℤ) whe
     single-listed true (suc (suc zero)) l = simp (weighed-four, zero-*ℤ)
     single-listed true (suc (suc (suc zero))) l = simp (weighed-four, zero-*ℤ)
 
-    pub single-is : kindOf (count s i) ≡ Single → (r : ℕ) → r < 4 → count s (i + 1) ≡ r → singleBy rule s (i + 2) back r x ≡ staged
+    pub single-is : kindOf (count s i) ≡ Single → (r : ℕ) → r < 4 → count s (i + 1) ≡ r →
+        singleBy rule s (i + 2) back r x ≡ staged
     single-is k r b e = by-list (singleBy rule s (i + 2) back r) Single r (single-listed back r b) ∙ known k e

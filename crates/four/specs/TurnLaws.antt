@@ -1,5 +1,5 @@
 -- TURNS: what they ask, how large their numbers are, and one after another.
-use mathlib.Core.Bool.{Bool, true, false}
+use mathlib.Core.Bool.{true}
 use mathlib.Core.List.{List, [], _∷_}
 use mathlib.Core.Logic.{_≢_}
 use mathlib.Core.Path.{_≡_, refl, ap, _∙_}
@@ -8,18 +8,18 @@ use native.Mathlib.Decide.{ℕ-discrete}
 use native.Mathlib.Omega.{arith}
 use borrow.Author.Tests.{eq-eqb, ne-eqb}
 use lib.Dec.{T, ltb, leb, lit<, lit≤}
-use lib.IntN.{ℤ, pos, _+ℤ_, _*ℤ_}
+use lib.IntN.{ℤ}
 use lib.ListN.{length}
 use Rattle.whole.specs.Diff.{Within}
 use Rattle.whole.specs.Laws.{Sign}
 use Rattle.whole.specs.Machine.{within-le, within-+, within-*, within-pos}
 use Rattle.rules.specs.declared.Kind.{Kind}
-use Rattle.rules.specs.declared.Kind.the-variants.{Permutation, Lower, Upper, Single}
+use Rattle.rules.specs.declared.Kind.the-variants.{Permutation}
 use Rattle.rules.specs.declared.Rule.{Rule}
 use Rattle.rules.specs.Numbers.{unit, bound, mostEntry, at, count}
-use Rattle.rules.specs.Sheets.{kindOf, triangle}
+use Rattle.rules.specs.Sheets.{kindOf}
 use Rattle.rules.specs.Factors.{signsAt}
-use Rattle.laws.specs.Accepted.{FactorRead, Weights, entriesOf, never, sign-is, entry-is}
+use Rattle.laws.specs.Accepted.{FactorRead, Weights, entriesOf, sign-is, entry-is}
 use Rattle.factor.specs.SumBounds.{Bounded, Terms}
 use Rattle.factor.specs.Rounding.{rounded-within}
 use Rattle.four.specs.declared.Four.{Four}

@@ -1,8 +1,8 @@
 -- A BLOCK MADE TURN BY TURN: in turn t its element p t becomes z t. A number beyond the bound stays, so it refuses the stage.
 use mathlib.Core.Bool.{true, false}
 use mathlib.Core.List.{List}
-use mathlib.Core.Path.{_≡_, refl, sym, ap, _∙_}
-use Prim.Native.Nat.{ℕ, suc, _+_, _-_, _≤_, _<_}
+use mathlib.Core.Path.{_≡_, sym, ap, _∙_}
+use Prim.Native.Nat.{ℕ, _+_, _<_}
 use native.Mathlib.Numerals.{add-one}
 use native.Mathlib.Omega.{arith}
 use lib.Dec.{leb}
@@ -64,6 +64,7 @@ module _ (rule : Rule) {s : List ℤ} {f : Layout} (h : InSheet s f) (x : List �
       let p = undoing-permutes (f .kind) (f .order) (f .row) r in
       record {
         next = λ t l. rw (add-one, e t l);
-        kept = λ t l. rw (e t l) (in-place-stays p (undoneAt rule s f) x (let o = h .order in omega arith) t (f .order) l (omega arith));
+        kept = λ t l. rw (e t l) (in-place-stays p (undoneAt rule s f) x (let o = h .order in omega arith) t (f .order) l
+            (omega arith));
         below = λ t l. rw (e t l) (p .below t l);
       }

@@ -1,5 +1,5 @@
 -- BLOCKS OF FOUR: what the stages of four give to a run, and the reply to an accepted one.
-use mathlib.Core.Bool.{Bool, true, false}
+use mathlib.Core.Bool.{true}
 use mathlib.Core.List.{List}
 use mathlib.Core.Logic.{_≢_}
 use mathlib.Core.Path.{_≡_, refl, sym, ap, _∙_}
@@ -18,7 +18,6 @@ use Rattle.rules.specs.Answers.{accepted}
 use Rattle.rules.specs.Calls.{Gives, reply, ranAnswer, ranMemory}
 use Rattle.rules.specs.Laws.Lists.{inside-at}
 use Rattle.laws.specs.AnswersInTurn.{ranReply}
-use Rattle.factor.specs.declared.run.Run.{Run}
 use Rattle.factor.specs.declared.run.Task.{Task}
 use Rattle.factor.specs.declared.run.Task.the-variants.{Forward, Inverse, Allowance}
 use Rattle.factor.specs.SumBounds.{Bounded}

@@ -1,5 +1,5 @@
-// A factor with weights, applied and undone: a loop for each kind, so that its kind is looked at once. The block goes in and comes
-// back by value. Undone in place, a loop stops at the first number beyond the bound: later sums could leave 64 bits.
+// A factor with weights, applied and undone: a loop for each kind, so that its kind is looked at once. The block goes in and
+// comes back by value. Undone in place, a loop stops at the first number beyond the bound: later sums could leave 64 bits.
 ghost use mathlib.Core.Logic.{_≢_};
 ghost use mathlib.Core.Path.{_≡_};
 ghost use Prim.Native.Nat.{_<_};

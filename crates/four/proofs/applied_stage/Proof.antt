@@ -29,7 +29,8 @@ add-applied : tie.Need-add-applied
 add-applied c = search needs
 
 applied-requires : tie.Need-applied-requires
-applied-requires c κs = let s = c .before .before .before in (s .pre .0 .body .places (sym (c .before .before .kind-at .ensures) ∙ c .enum-told .given .1), s .pre .1)
+applied-requires c κs = let s = c .before .before .before in
+    (s .pre .0 .body .places (sym (c .before .before .kind-at .ensures) ∙ c .enum-told .given .1), s .pre .1)
 
 returns : tie.Need-returns
 returns c =
@@ -47,8 +48,10 @@ add-lower c = search needs
 lower-requires : tie.Need-lower-requires
 unfolding signsAt entriesOf triangle
 lower-requires c κs =
-    let s = c .before .before .before in
-    (factor-in (s .pre .0) Lower (λ e. never (cc)) (sym (c .before .before .kind-at .ensures) ∙ c .enum-told2 .given .1), s .pre .1)
+    let s = c .before .before .before in (
+      factor-in (s .pre .0) Lower (λ e. never (cc)) (sym (c .before .before .kind-at .ensures) ∙ c .enum-told2 .given .1),
+      s .pre .1,
+    )
 
 returns-2 : tie.Need-returns-2
 returns-2 c =
@@ -66,8 +69,10 @@ add-upper c = search needs
 upper-requires : tie.Need-upper-requires
 unfolding signsAt entriesOf triangle
 upper-requires c κs =
-    let s = c .before .before .before in
-    (factor-in (s .pre .0) Upper (λ e. never (cc)) (sym (c .before .before .kind-at .ensures) ∙ c .enum-told3 .given .1), s .pre .1)
+    let s = c .before .before .before in (
+      factor-in (s .pre .0) Upper (λ e. never (cc)) (sym (c .before .before .kind-at .ensures) ∙ c .enum-told3 .given .1),
+      s .pre .1,
+    )
 
 returns-3 : tie.Need-returns-3
 returns-3 c =
@@ -86,7 +91,8 @@ add-count-at : tie.Need-add-count-at
 add-count-at c = search needs
 
 -- its kind, and its row
-kind : (c : tie.After-enum-told4) → kindOf (count (c .before .before .before .args .sheet .now) (c .before .before .before .args .i)) ≡ Single
+kind : (c : tie.After-enum-told4) → kindOf (count (c .before .before .before .args .sheet .now)
+    (c .before .before .before .args .i)) ≡ Single
 kind c = sym (c .before .before .kind-at .ensures) ∙ c .enum-told4 .given .1
 
 row :
@@ -111,4 +117,6 @@ returns-4 c =
     (rw (c .before .count-at .ensures) (row-is (row e) .1)) (sym (c .before .count-at .ensures))) (c .single .ensures)
 
 pub applied-stage-spec : {M : Type 1} → statement M
-applied-stage-spec = tie.close (tie.spec kind-at-requires enum-told add-applied applied-requires returns enum-told-2 add-lower lower-requires returns-2 enum-told-3 add-upper upper-requires returns-3 enum-told-4 add-single add-count-at count-at-requires single-requires returns-4)
+applied-stage-spec = tie.close (tie.spec kind-at-requires enum-told add-applied applied-requires returns enum-told-2 add-lower
+    lower-requires returns-2 enum-told-3 add-upper upper-requires returns-3 enum-told-4 add-single add-count-at count-at-requires
+    single-requires returns-4)

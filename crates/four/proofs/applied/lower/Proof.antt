@@ -1,5 +1,4 @@
 -- Four turns, one after another.
-use borrow.Author.Needs.{needs}
 use Rattle.four.specs.TurnLaws.{element-in, four-turns}
 use Rattle.four.proofs.applied.lower.Statement.{statement}
 use Rattle.four.proofs.applied.lower.Tie as tie

@@ -1,12 +1,11 @@
 -- The sign, the number and the rounded sum are small, and so is what is made of them.
 use borrow.Author.Needs.{needs}
-use mathlib.Core.Path.{_≡_, refl, ap, _∙_}
+use mathlib.Core.Path.{_≡_, ap, _∙_}
 use mathlib.Core.Bool.{false}
 use lib.ListN.{set}
 use mir.Syntax.{w32, w64}
 use mir.Val.{toZ, ofZ}
 use Rattle.whole.specs.Machine.{fits, reads, back, within-+, sign-within, within-sign}
-use Rattle.rules.specs.Numbers.{bound}
 use Rattle.four.specs.Turns.{elementBy}
 use Rattle.four.specs.TurnLaws.{rounded-sum-small, turned-as}
 use Rattle.four.proofs.elements.applied_at.Statement.{statement}
@@ -64,7 +63,9 @@ with-number-requires c κs = search needs
 
 returns : tie.Need-returns
 returns c =
-    let a = c .before .before .before .before .before .before .args in turned-as (ap (set (a .v .block) (a .m)) (value (c .before))) (c .with-number .ensures)
+    let a = c .before .before .before .before .before .before .args in turned-as
+    (ap (set (a .v .block) (a .m)) (value (c .before))) (c .with-number .ensures)
 
 pub applied-at-spec : {M : Type 1} → statement M
-applied-at-spec = tie.close (tie.spec rounded-sum-requires add-applied mul-applied shared-slice-copy-out-applied mul-applied-2 array-copy-out-applied applied-requires with-number-requires returns)
+applied-at-spec = tie.close (tie.spec rounded-sum-requires add-applied mul-applied shared-slice-copy-out-applied mul-applied-2
+    array-copy-out-applied applied-requires with-number-requires returns)

@@ -82,4 +82,5 @@ returns : tie.Need-returns
 returns c = back w64 _ (c .round-line .ok) ∙ c .round-line .ensures ∙ rw (value (c .before))
 
 pub rounded-sum-spec : {M : Type 1} → statement M
-rounded-sum-spec = tie.close (tie.spec add-e entry-requires entry-requires-2 entry-requires-3 entry-requires-4 slice-aggregate-products-sum products-sum-requires round-line-requires returns)
+rounded-sum-spec = tie.close (tie.spec add-e entry-requires entry-requires-2 entry-requires-3 entry-requires-4
+    slice-aggregate-products-sum products-sum-requires round-line-requires returns)

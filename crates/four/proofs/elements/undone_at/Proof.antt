@@ -69,7 +69,9 @@ with-number-requires c κs =
 
 returns : tie.Need-returns
 returns c =
-    let a = c .before .before .before .before .before .before .before .args in turned-as (ap (set (a .v .block) (a .m)) (value (c .before))) (c .with-number .ensures)
+    let a = c .before .before .before .before .before .before .before .args in turned-as
+    (ap (set (a .v .block) (a .m)) (value (c .before))) (c .with-number .ensures)
 
 pub undone-at-spec : {M : Type 1} → statement M
-undone-at-spec = tie.close (tie.spec rounded-sum-requires add-undone mul-undone shared-slice-copy-out-undone mul-undone-2 array-copy-out-undone undone-requires with-number-requires returns)
+undone-at-spec = tie.close (tie.spec rounded-sum-requires add-undone mul-undone shared-slice-copy-out-undone mul-undone-2
+    array-copy-out-undone undone-requires with-number-requires returns)

@@ -1,7 +1,7 @@
 -- A number that was tested is put into the block.
 use borrow.Author.Needs.{needs}
 use borrow.Author.Tests.{not-true, not-false}
-use mathlib.Core.Path.{_≡_, refl, sym, _∙_}
+use mathlib.Core.Path.{refl, sym, _∙_}
 use mir.Facts.{toZ-ofZ}
 use mir.Syntax.{w32}
 use Rattle.whole.specs.Diff.{Within}

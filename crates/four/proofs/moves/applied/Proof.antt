@@ -75,4 +75,5 @@ returns c =
     (moved-bounded false 4 (λ m. count (s .args .sheet .now) (s .args .p + m)) h)
 
 pub applied-spec : {M : Type 1} → statement M
-applied-spec = tie.close (tie.spec place-requires place-requires-2 place-requires-3 place-requires-4 mul-t9 array-copy-out-t12 mul-t13 array-copy-out-t16 mul-t17 array-copy-out-t20 mul-t21 array-copy-out-t24 returns)
+applied-spec = tie.close (tie.spec place-requires place-requires-2 place-requires-3 place-requires-4 mul-t9 array-copy-out-t12
+    mul-t13 array-copy-out-t16 mul-t17 array-copy-out-t20 mul-t21 array-copy-out-t24 returns)

@@ -1,6 +1,5 @@
 -- A place of a permutation of four is below four.
 use borrow.Author.Needs.{needs}
-use mathlib.Core.Path.{_≡_}
 use Rattle.laws.specs.Accepted.{place-is, place-counts}
 use Rattle.four.proofs.moves.place.Statement.{statement}
 use Rattle.four.proofs.moves.place.Tie as tie

@@ -80,4 +80,6 @@ returns c =
     (moved-bounded true 4 (λ m. count (s .args .sheet .now) (s .args .p + m)) h)
 
 pub undone-spec : {M : Type 1} → statement M
-undone-spec = tie.close (tie.spec place-requires place-requires-2 place-requires-3 place-requires-4 array-copy-out-x mul-x array-set-from-x array-copy-out-x-2 mul-x-2 array-set-from-x-2 array-copy-out-x-3 mul-x-3 array-set-from-x-3 array-copy-out-x-4 mul-x-4 array-set-from-x-4 returns)
+undone-spec = tie.close (tie.spec place-requires place-requires-2 place-requires-3 place-requires-4 array-copy-out-x mul-x
+    array-set-from-x array-copy-out-x-2 mul-x-2 array-set-from-x-2 array-copy-out-x-3 mul-x-3 array-set-from-x-3
+    array-copy-out-x-4 mul-x-4 array-set-from-x-4 returns)

@@ -49,4 +49,5 @@ returns-2 c =
 pub run-block-spec : {M : Type 1} → statement M
 run-block-spec =
     tie.close
-    (tie.spec run-four-requires run-any-requires same-length returns copy-front-requires accepted-requires same-length-2 returns-2)
+    (tie.spec run-four-requires run-any-requires same-length returns copy-front-requires accepted-requires same-length-2
+    returns-2)

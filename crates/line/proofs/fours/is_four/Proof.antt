@@ -1,7 +1,7 @@
 -- Each arm in turn.
 use borrow.Author.Needs.{needs}
 use borrow.Author.Tests.{eqb-true}
-use mathlib.Core.Path.{_≡_, sym, _∙_}
+use mathlib.Core.Path.{sym}
 use Rattle.laws.specs.Tests.{apart}
 use Rattle.laws.specs.Accepted.{never}
 use Rattle.line.proofs.fours.is_four.Statement.{statement}

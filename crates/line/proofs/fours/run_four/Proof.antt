@@ -3,7 +3,6 @@ use borrow.Author.Needs.{needs}
 use borrow.Author.Tests.{not-false}
 use mathlib.Core.Logic.{_≢_}
 use mathlib.Core.Path.{_≡_, sym, _∙_}
-use lib.ListN.{length}
 use Rattle.rules.specs.Numbers.{bound, count}
 use Rattle.laws.specs.Tests.{apart}
 use Rattle.laws.specs.Accepted.{order-counts}
@@ -54,8 +53,11 @@ returns-3 c t =
     let e = l .before in
     let s = e .before .before .before in
     let f = four e in
-    let a = s .args in
-    (f .0, ran-is (a .run .task) (a .run .rule) _ _ (a .x .now) (f .1) ∙ (rw (l .load-four .ensures) at (c .run-stages-of-four .ensures t)))
+    let a = s .args in (
+      f .0,
+      ran-is (a .run .task) (a .run .rule) _ _ (a .x .now) (f .1) ∙
+          (rw (l .load-four .ensures) at (c .run-stages-of-four .ensures t)),
+    )
 
 pub run-four-spec : {M : Type 1} → statement M
 run-four-spec =

@@ -35,7 +35,8 @@ count-at-requires c κs = count-counts (c .before .pre .0)
 loop-holds : tie.Need-loop-holds Inv-loop μ-loop
 loop-holds c =
     let s = c .before .before in
-    let small : Bounded (limitOf (s .args .run .task)) (s .args .x) = rw (limit-is (s .args .run .task) (s .pre .3)) (s .pre .4) in
+    let small : Bounded (limitOf (s .args .run .task)) (s .args .x) = rw (limit-is (s .args .run .task) (s .pre .3)) (s .pre .4)
+    in
     (omega arith, c .count-at .ensures, run-starts (s .args .run) (s .args .sheet .now) small)
 
 -- the stage in turn, and its factor

@@ -42,4 +42,5 @@ returns-4 c = c .single2 .ensures
 pub apply-weights-spec : {M : Type 1} → statement M
 apply-weights-spec =
     tie.close
-    (tie.spec enum-told single-requires returns enum-told-2 lower-requires returns-2 enum-told-3 upper-requires returns-3 enum-told-4 single-requires-2 returns-4)
+    (tie.spec enum-told single-requires returns enum-told-2 lower-requires returns-2 enum-told-3 upper-requires returns-3
+    enum-told-4 single-requires-2 returns-4)

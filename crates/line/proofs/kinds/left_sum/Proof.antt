@@ -1,7 +1,7 @@
 -- The entries stand on one side of the diagonal (`left-along`), and their sum is small.
 use borrow.Author.Needs.{needs}
 use mathlib.Core.Path.{_≡_, sym, _∙_}
-use Prim.Native.Nat.{_+_, _-_, _≤_, suc}
+use Prim.Native.Nat.{_≤_}
 use native.Mathlib.Omega.{arith}
 use lib.ListN.{length}
 use mir.Syntax.{w64}
@@ -74,4 +74,5 @@ returns c = back w64 _ (c .round-line .ok) ∙ c .round-line .ensures ∙ rw (va
 pub left-sum-spec : {M : Type 1} → statement M
 left-sum-spec =
     tie.close
-    (tie.spec mul-products-sum sub-products-sum part-products-sum-start part-products-sum-end products-sum-requires round-line-requires returns)
+    (tie.spec mul-products-sum sub-products-sum part-products-sum-start part-products-sum-end products-sum-requires
+    round-line-requires returns)

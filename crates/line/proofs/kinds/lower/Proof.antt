@@ -1,9 +1,8 @@
 -- The block is as m turns leave it, and in bound (`Filled`); p is where the next row starts.
 use borrow.Author.Needs.{needs}
 use borrow.Author.Tests.{not-true, not-false}
-use mathlib.Core.List.{List}
 use mathlib.Core.Path.{_≡_, refl, sym, _∙_}
-use Prim.Native.Nat.{ℕ, suc, _+_, _-_, _≤_, _<_}
+use Prim.Native.Nat.{ℕ, _+_, _-_, _≤_, _<_}
 use native.Mathlib.Numerals.{add-one}
 use native.Mathlib.Omega.{arith}
 use lib.IntN.{ℤ}
@@ -61,15 +60,19 @@ sum :
     let i = c .before .before .before in
     let l = i .before in
     let s = l .before in
-    toZ w64 (ofZ w64 (c .left-sum .result)) ≡ roundedSum (s .args .rule) (s .args .sheet .now) (s .args .f) (s .args .t4) (i .before .loop .m)
+    toZ w64 (ofZ w64 (c .left-sum .result)) ≡ roundedSum (s .args .rule) (s .args .sheet .now) (s .args .f) (s .args .t4)
+    (i .before .loop .m)
 sum c = back w64 _ (c .left-sum .ok) ∙ c .left-sum .ensures
 
 applied-at-requires : tie.Need-applied-at-requires Inv-loop μ-loop
 applied-at-requires c κs =
     let i = c .before .before .before in
     let l = i .before in
-    let s = l .before in
-    ((s .pre .0, (turn i), s .pre .2), rw (sum c) (rounded-sum-small (s .pre .0) (i .before .loop .m) (turn i) (s .args .rule) (s .pre .2)))
+    let s = l .before in (
+      (s .pre .0, (turn i), s .pre .2),
+      rw (sum c) (rounded-sum-small (s .pre .0) (i .before .loop .m) (turn i) (s .args .rule)
+          (s .pre .2)),
+    )
 
 value :
     (c : tie.After-applied-at Inv-loop μ-loop) →
@@ -131,7 +134,14 @@ add-p c =
     let s = l .before in
     let r = s .pre .0 .row (l .loop .m) (turn i) .room in
     let h = turn i in
-    omega (arith, l .loop .inv .1, l .loop .inv .2, lower-at (s .args .f) (l .loop .m) (s .pre .1), lower-left (s .args .f) (l .loop .m) (s .pre .1))
+    omega (
+      arith,
+      l .loop .inv .1,
+      l .loop .inv .2,
+      lower-at (s .args .f) (l .loop .m) (s .pre .1),
+      lower-left (s .args .f)
+          (l .loop .m) (s .pre .1),
+    )
 
 add-m : tie.Need-add-m Inv-loop μ-loop
 add-m c = omega arith
@@ -159,4 +169,5 @@ returns-2 c =
 pub lower-spec : {M : Type 1} → statement M
 lower-spec =
     tie.close
-    (tie.spec Inv-loop μ-loop loop-holds left-sum-requires applied-at-requires is-within-requires returns cast-y mul-y array-set-from-y add-p add-m loop-less loop-again returns-2)
+    (tie.spec Inv-loop μ-loop loop-holds left-sum-requires applied-at-requires is-within-requires returns cast-y mul-y
+    array-set-from-y add-p add-m loop-less loop-again returns-2)

@@ -3,7 +3,7 @@ use borrow.Author.Needs.{needs}
 use borrow.Author.Tests.{not-true, not-false}
 use mathlib.Core.List.{List}
 use mathlib.Core.Path.{_≡_, refl, sym, _∙_}
-use Prim.Native.Nat.{ℕ, suc, _+_, _-_, _≤_, _<_}
+use Prim.Native.Nat.{ℕ, _+_, _-_, _≤_, _<_}
 use native.Mathlib.Numerals.{add-one}
 use native.Mathlib.Omega.{arith}
 use lib.IntN.{ℤ}
@@ -60,8 +60,12 @@ left-sum-requires : tie.Need-left-sum-requires Inv-loop μ-loop
 left-sum-requires c κs =
     let i = c .before .before in
     let l = i .before in
-    let s = l .before in
-    ((s .pre .0, (turn i), l .loop .inv .3 .small), s .pre .1, l .loop .inv .2 ∙ sym (lower-at (s .args .f) (l .loop .t) (s .pre .1)))
+    let s = l .before in (
+      (s .pre .0, (turn i), l .loop .inv .3 .small),
+      s .pre .1,
+      l .loop .inv .2 ∙ sym
+          (lower-at (s .args .f) (l .loop .t) (s .pre .1)),
+    )
 
 -- the rounded sum, as it was read
 sum :
@@ -69,15 +73,19 @@ sum :
     let i = c .before .before .before in
     let l = i .before in
     let s = l .before in
-    toZ w64 (ofZ w64 (c .left-sum .result)) ≡ roundedSum (s .args .rule) (s .args .sheet .now) (s .args .f) (l .loop .x) (i .before .loop .t)
+    toZ w64 (ofZ w64 (c .left-sum .result)) ≡ roundedSum (s .args .rule) (s .args .sheet .now) (s .args .f) (l .loop .x)
+    (i .before .loop .t)
 sum c = back w64 _ (c .left-sum .ok) ∙ c .left-sum .ensures
 
 undone-at-requires : tie.Need-undone-at-requires Inv-loop μ-loop
 undone-at-requires c κs =
     let i = c .before .before .before in
     let l = i .before in
-    let s = l .before in
-    ((s .pre .0, (turn i), l .loop .inv .3 .small), rw (sum c) (rounded-sum-small (s .pre .0) (i .before .loop .t) (turn i) (s .args .rule) (l .loop .inv .3 .small)))
+    let s = l .before in (
+      (s .pre .0, (turn i), l .loop .inv .3 .small),
+      rw (sum c)
+          (rounded-sum-small (s .pre .0) (i .before .loop .t) (turn i) (s .args .rule) (l .loop .inv .3 .small)),
+    )
 
 value :
     (c : tie.After-undone-at Inv-loop μ-loop) →
@@ -139,7 +147,14 @@ add-p c =
     let s = l .before in
     let r = s .pre .0 .row (l .loop .t) (turn i) .room in
     let h = turn i in
-    omega (arith, l .loop .inv .1, l .loop .inv .2, lower-at (s .args .f) (l .loop .t) (s .pre .1), lower-left (s .args .f) (l .loop .t) (s .pre .1))
+    omega (
+      arith,
+      l .loop .inv .1,
+      l .loop .inv .2,
+      lower-at (s .args .f) (l .loop .t) (s .pre .1),
+      lower-left (s .args .f)
+          (l .loop .t) (s .pre .1),
+    )
 
 add-t : tie.Need-add-t Inv-loop μ-loop
 add-t c = omega arith
@@ -167,4 +182,5 @@ returns-2 c =
 pub lower-back-spec : {M : Type 1} → statement M
 lower-back-spec =
     tie.close
-    (tie.spec Inv-loop μ-loop loop-holds left-sum-requires undone-at-requires is-within-requires returns cast-x mul-x array-set-from-x add-p add-t loop-less loop-again returns-2)
+    (tie.spec Inv-loop μ-loop loop-holds left-sum-requires undone-at-requires is-within-requires returns cast-x mul-x
+    array-set-from-x add-p add-t loop-less loop-again returns-2)

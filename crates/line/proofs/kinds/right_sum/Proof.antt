@@ -1,7 +1,7 @@
 -- The entries stand on one side of the diagonal (`right-along`), and their sum is small.
 use borrow.Author.Needs.{needs}
 use mathlib.Core.Path.{_≡_, sym, _∙_}
-use Prim.Native.Nat.{_+_, _-_, _≤_, suc}
+use Prim.Native.Nat.{_-_, _≤_, suc}
 use native.Mathlib.Nat.{add-zero}
 use native.Mathlib.Omega.{arith}
 use lib.ListN.{length}
@@ -91,4 +91,6 @@ returns c = back w64 _ (c .round-line .ok) ∙ c .round-line .ensures ∙ rw (va
 pub right-sum-spec : {M : Type 1} → statement M
 right-sum-spec =
     tie.close
-    (tie.spec mul-products-sum-from sub-products-sum-from part-products-sum-from-start part-products-sum-from-end add-products-sum-from sub-products-sum-from-2 sub-products-sum-from-3 products-sum-from-requires round-line-requires returns)
+    (tie.spec mul-products-sum-from sub-products-sum-from part-products-sum-from-start part-products-sum-from-end
+    add-products-sum-from sub-products-sum-from-2 sub-products-sum-from-3 products-sum-from-requires round-line-requires
+    returns)

@@ -1,10 +1,8 @@
 -- The block is as m turns leave it, and in bound (`Filled`).
 use borrow.Author.Needs.{needs}
 use borrow.Author.Tests.{not-true, not-false}
-use mathlib.Core.List.{List}
-use mathlib.Core.Path.{_≡_, refl, sym, _∙_}
-use Prim.Native.Nat.{ℕ, suc, _+_, _-_, _≤_, _<_}
-use native.Mathlib.Numerals.{add-one}
+use mathlib.Core.Path.{_≡_, refl, _∙_}
+use Prim.Native.Nat.{ℕ, _-_, _≤_, _<_}
 use native.Mathlib.Omega.{arith}
 use lib.IntN.{ℤ}
 use lib.ListN.{length}
@@ -59,15 +57,19 @@ sum :
     let i = c .before .before .before in
     let l = i .before in
     let s = l .before in
-    toZ w64 (ofZ w64 (c .single-sum .result)) ≡ roundedSum (s .args .rule) (s .args .sheet .now) (s .args .f) (s .args .t4) (i .before .loop .m)
+    toZ w64 (ofZ w64 (c .single-sum .result)) ≡ roundedSum (s .args .rule) (s .args .sheet .now) (s .args .f) (s .args .t4)
+    (i .before .loop .m)
 sum c = back w64 _ (c .single-sum .ok) ∙ c .single-sum .ensures
 
 applied-at-requires : tie.Need-applied-at-requires Inv-loop μ-loop
 applied-at-requires c κs =
     let i = c .before .before .before in
     let l = i .before in
-    let s = l .before in
-    ((s .pre .0, (turn i), s .pre .2), rw (sum c) (rounded-sum-small (s .pre .0) (i .before .loop .m) (turn i) (s .args .rule) (s .pre .2)))
+    let s = l .before in (
+      (s .pre .0, (turn i), s .pre .2),
+      rw (sum c) (rounded-sum-small (s .pre .0) (i .before .loop .m) (turn i) (s .args .rule)
+          (s .pre .2)),
+    )
 
 value :
     (c : tie.After-applied-at Inv-loop μ-loop) →
@@ -147,4 +149,5 @@ returns-2 c =
 pub single-spec : {M : Type 1} → statement M
 single-spec =
     tie.close
-    (tie.spec Inv-loop μ-loop loop-holds single-sum-requires applied-at-requires is-within-requires returns cast-y mul-y array-set-from-y add-m loop-less loop-again returns-2)
+    (tie.spec Inv-loop μ-loop loop-holds single-sum-requires applied-at-requires is-within-requires returns cast-y mul-y
+    array-set-from-y add-m loop-less loop-again returns-2)

@@ -2,9 +2,8 @@
 use borrow.Author.Needs.{needs}
 use borrow.Author.Tests.{not-true, not-false}
 use mathlib.Core.List.{List}
-use mathlib.Core.Path.{_≡_, refl, sym, _∙_}
-use Prim.Native.Nat.{ℕ, suc, _+_, _-_, _≤_, _<_}
-use native.Mathlib.Numerals.{add-one}
+use mathlib.Core.Path.{_≡_, refl, _∙_}
+use Prim.Native.Nat.{ℕ, _-_, _≤_, _<_}
 use native.Mathlib.Omega.{arith}
 use lib.IntN.{ℤ}
 use lib.ListN.{length}
@@ -15,7 +14,7 @@ use Rattle.whole.specs.Machine.{fits, reads, back}
 use Rattle.rules.specs.Numbers.{bound}
 use Rattle.factor.specs.SumBounds.{test-no, test-yes}
 use Rattle.factor.specs.InPlace.{inPlace}
-use Rattle.factor.specs.UndoingOrder.{nthUndone, undoing-permutes}
+use Rattle.factor.specs.UndoingOrder.{nthUndone}
 use Rattle.line.specs.Steps.{roundedSum, undoneAt, undoneInPlace}
 use Rattle.line.specs.LineBounds.{rounded-sum-small}
 use Rattle.line.specs.Filling.{Filling, Filled, filled-more, filled-stops, filled-done, undone-fills}
@@ -77,7 +76,8 @@ sum :
     let i = c .before .before .before .before in
     let l = i .before in
     let s = l .before in
-    toZ w64 (ofZ w64 (c .single-sum .result)) ≡ roundedSum (s .args .rule) (s .args .sheet .now) (s .args .f) (l .loop .x) (i0 .nth-undone .result)
+    toZ w64 (ofZ w64 (c .single-sum .result)) ≡ roundedSum (s .args .rule) (s .args .sheet .now) (s .args .f) (l .loop .x)
+    (i0 .nth-undone .result)
 sum c = back w64 _ (c .single-sum .ok) ∙ c .single-sum .ensures
 
 undone-at-requires : tie.Need-undone-at-requires Inv-loop μ-loop
@@ -85,8 +85,11 @@ undone-at-requires c κs =
     let i0 = c .before .before .before in
     let i = c .before .before .before .before in
     let l = i .before in
-    let s = l .before in
-    ((s .pre .0, (small-place i0), l .loop .inv .2 .small), rw (sum c) (rounded-sum-small (s .pre .0) (i0 .nth-undone .result) (small-place i0) (s .args .rule) (l .loop .inv .2 .small)))
+    let s = l .before in (
+      (s .pre .0, (small-place i0), l .loop .inv .2 .small),
+      rw (sum c)
+          (rounded-sum-small (s .pre .0) (i0 .nth-undone .result) (small-place i0) (s .args .rule) (l .loop .inv .2 .small)),
+    )
 
 value :
     (c : tie.After-undone-at Inv-loop μ-loop) →
@@ -159,7 +162,8 @@ loop-again c =
     let s = l .before in (
       omega arith,
       l .loop .inv .1,
-      rw (i0 .nth-undone .ensures, value (c .before .before), reads w32 (held c) tt) (filled-more (fills s) (turn i) (l .loop .inv .2) (held c)),
+      rw (i0 .nth-undone .ensures, value (c .before .before), reads w32 (held c) tt)
+          (filled-more (fills s) (turn i) (l .loop .inv .2) (held c)),
     )
 
 returns-2 : tie.Need-returns-2 Inv-loop μ-loop
@@ -170,4 +174,5 @@ returns-2 c =
 pub single-back-spec : {M : Type 1} → statement M
 single-back-spec =
     tie.close
-    (tie.spec Inv-loop μ-loop loop-holds nth-undone-requires single-sum-requires undone-at-requires is-within-requires returns cast-x mul-x array-set-from-x add-t loop-less loop-again returns-2)
+    (tie.spec Inv-loop μ-loop loop-holds nth-undone-requires single-sum-requires undone-at-requires is-within-requires returns
+    cast-x mul-x array-set-from-x add-t loop-less loop-again returns-2)

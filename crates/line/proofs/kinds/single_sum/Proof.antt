@@ -18,7 +18,8 @@ use Rattle.line.proofs.kinds.single_sum.Tie as tie
 returns : tie.Need-returns
 returns c =
     let s = c .before .before in
-    sym (single-none (s .args .rule) (s .args .sheet .now) (s .args .f) (s .args .x .now) (s .args .m) (s .pre .1) (c .if1 .taken))
+    sym (single-none (s .args .rule) (s .args .sheet .now) (s .args .f) (s .args .x .now) (s .args .m) (s .pre .1)
+    (c .if1 .taken))
 
 -- what the code asks of the row
 row-of-requires : tie.Need-row-of-requires
@@ -36,16 +37,19 @@ row-sum-requires c κs =
 value :
     (c : tie.After-row-sum) →
     toZ w64 (ofZ w64 (c .row-sum .result))
-    ≡ along (at (c .before .before .before .before .args .sheet .now)) (rowOf (c .before .before .before .before .args .f) (c .before .before .before .before .args .m))
+    ≡ along (at (c .before .before .before .before .args .sheet .now))
+    (rowOf (c .before .before .before .before .args .f) (c .before .before .before .before .args .m))
     (c .before .before .before .before .args .m) (c .before .before .before .before .args .x .now)
 value c = back w64 _ (c .row-sum .ok) ∙ c .row-sum .ensures ∙ rw (c .before .row-of .ensures)
 
 small :
     (c : tie.After-row-sum) →
     Within mostSum (along (at (c .before .before .before .before .args .sheet .now))
-    (rowOf (c .before .before .before .before .args .f) (c .before .before .before .before .args .m)) (c .before .before .before .before .args .m)
+    (rowOf (c .before .before .before .before .args .f) (c .before .before .before .before .args .m))
+    (c .before .before .before .before .args .m)
     (c .before .before .before .before .args .x .now))
-small c = let h = c .before .before .before .before .pre .0 in row-small (h .0) (c .before .before .before .before .args .m) (h .1) (bounded-le (omega arith) (h .2))
+small c = let h = c .before .before .before .before .pre .0 in row-small (h .0) (c .before .before .before .before .args .m)
+    (h .1) (bounded-le (omega arith) (h .2))
 
 round-line-requires : tie.Need-round-line-requires
 round-line-requires c κs =

@@ -7,7 +7,8 @@ enum-told : tie.Need-enum-told
 enum-told c = search needs
 
 single-back-requires : tie.Need-single-back-requires
-single-back-requires c κs = let s = c .before .before in (s .pre .0, absurd (s .pre .1 (c .enum-told .given .1)), s .pre .2, s .pre .3)
+single-back-requires c κs = let s = c .before .before in
+    (s .pre .0, absurd (s .pre .1 (c .enum-told .given .1)), s .pre .2, s .pre .3)
 
 returns : tie.Need-returns
 returns c = c .single-back .ensures
@@ -42,4 +43,5 @@ returns-4 c = c .single-back2 .ensures
 pub undo-weights-spec : {M : Type 1} → statement M
 undo-weights-spec =
     tie.close
-    (tie.spec enum-told single-back-requires returns enum-told-2 lower-back-requires returns-2 enum-told-3 upper-back-requires returns-3 enum-told-4 single-back-requires-2 returns-4)
+    (tie.spec enum-told single-back-requires returns enum-told-2 lower-back-requires returns-2 enum-told-3 upper-back-requires
+    returns-3 enum-told-4 single-back-requires-2 returns-4)

@@ -1,7 +1,6 @@
 -- The block is as m turns leave it, and in bound (`Filled`); p is where the next row starts.
 use borrow.Author.Needs.{needs}
 use borrow.Author.Tests.{not-true, not-false}
-use mathlib.Core.List.{List}
 use mathlib.Core.Path.{_≡_, refl, sym, _∙_}
 use Prim.Native.Nat.{ℕ, suc, _+_, _-_, _≤_, _<_}
 use native.Mathlib.Numerals.{add-one}
@@ -61,15 +60,19 @@ sum :
     let i = c .before .before .before in
     let l = i .before in
     let s = l .before in
-    toZ w64 (ofZ w64 (c .right-sum .result)) ≡ roundedSum (s .args .rule) (s .args .sheet .now) (s .args .f) (s .args .t4) (i .before .loop .m)
+    toZ w64 (ofZ w64 (c .right-sum .result)) ≡ roundedSum (s .args .rule) (s .args .sheet .now) (s .args .f) (s .args .t4)
+    (i .before .loop .m)
 sum c = back w64 _ (c .right-sum .ok) ∙ c .right-sum .ensures
 
 applied-at-requires : tie.Need-applied-at-requires Inv-loop μ-loop
 applied-at-requires c κs =
     let i = c .before .before .before in
     let l = i .before in
-    let s = l .before in
-    ((s .pre .0, (turn i), s .pre .2), rw (sum c) (rounded-sum-small (s .pre .0) (i .before .loop .m) (turn i) (s .args .rule) (s .pre .2)))
+    let s = l .before in (
+      (s .pre .0, (turn i), s .pre .2),
+      rw (sum c) (rounded-sum-small (s .pre .0) (i .before .loop .m) (turn i) (s .args .rule)
+          (s .pre .2)),
+    )
 
 value :
     (c : tie.After-applied-at Inv-loop μ-loop) →
@@ -145,7 +148,14 @@ add-p c =
     let s = l .before in
     let r = s .pre .0 .row (l .loop .m) (turn i) .room in
     let h = turn i in
-    omega (arith, l .loop .inv .1, l .loop .inv .2, upper-at (s .args .f) (l .loop .m) (s .pre .1), upper-right (s .args .f) (l .loop .m) (s .pre .1))
+    omega (
+      arith,
+      l .loop .inv .1,
+      l .loop .inv .2,
+      upper-at (s .args .f) (l .loop .m) (s .pre .1),
+      upper-right (s .args .f)
+          (l .loop .m) (s .pre .1),
+    )
 
 add-m : tie.Need-add-m Inv-loop μ-loop
 add-m c = omega arith
@@ -161,7 +171,9 @@ loop-again c =
     let s = l .before in (
       omega arith,
       l .loop .inv .1,
-      let e : above (s .args .f .order) (l .loop .m + 1) ≡ above (s .args .f .order) (l .loop .m) + (s .args .f .order - suc (l .loop .m)) = rw add-one in let h = turn i in omega (arith, l .loop .inv .1, l .loop .inv .2),
+      let e : above (s .args .f .order) (l .loop .m + 1) ≡ above (s .args .f .order) (l .loop .m) +
+          (s .args .f .order - suc (l .loop .m)) = rw add-one in let h = turn i in omega
+          (arith, l .loop .inv .1, l .loop .inv .2),
       rw (value (c .before .before), reads w32 (held c) tt) (filled-more (fills s) (turn i) (l .loop .inv .3) (held c)),
     )
 
@@ -173,4 +185,5 @@ returns-2 c =
 pub upper-spec : {M : Type 1} → statement M
 upper-spec =
     tie.close
-    (tie.spec Inv-loop μ-loop loop-holds right-sum-requires applied-at-requires is-within-requires returns cast-y mul-y array-set-from-y sub-p sub-p-2 add-p add-m loop-less loop-again returns-2)
+    (tie.spec Inv-loop μ-loop loop-holds right-sum-requires applied-at-requires is-within-requires returns cast-y mul-y
+    array-set-from-y sub-p sub-p-2 add-p add-m loop-less loop-again returns-2)

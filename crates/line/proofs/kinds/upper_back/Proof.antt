@@ -2,9 +2,8 @@
 use borrow.Author.Needs.{needs}
 use borrow.Author.Tests.{not-true, not-false}
 use mathlib.Core.List.{List}
-use mathlib.Core.Path.{_≡_, refl, sym, _∙_}
+use mathlib.Core.Path.{_≡_, refl, _∙_}
 use Prim.Native.Nat.{ℕ, suc, _+_, _-_, _≤_, _<_}
-use native.Mathlib.Numerals.{add-one}
 use native.Mathlib.Omega.{arith}
 use lib.IntN.{ℤ}
 use lib.ListN.{length}
@@ -27,7 +26,8 @@ use Rattle.line.proofs.kinds.upper_back.Tie as tie
 
 abbrev Inv-loop : tie.InvT-loop
 Inv-loop rule sheet f y n x₀ p₀ t₀ x p t =
-    (t ≤ n) × (n ≡ f .order) × (p ≡ f .entries + above (f .order) (f .order - t)) × Filled (λ k. undoneInPlace rule sheet f k y) t x
+    (t ≤ n) × (n ≡ f .order) × (p ≡ f .entries + above (f .order) (f .order - t)) × Filled (λ k. undoneInPlace rule sheet f k y) t
+    x
 
 abbrev μ-loop : tie.MeasureT-loop
 μ-loop rule sheet f y n x₀ p₀ t₀ x p t = n - t
@@ -65,7 +65,14 @@ add-p c = let h = last (c .before .before) in omega (arith, c .before .before-lo
 
 loop-holds : tie.Need-loop-holds Inv-loop μ-loop
 unfolding inPlace
-loop-holds c = (omega arith, refl, let e = c .before .before-lower .ensures in let z : c .before .before .args .f .order - 0 ≡ c .before .before .args .f .order = omega arith in rw z (omega (arith, above-all (c .before .before .args .f .order))), record { is = refl; small = c .before .before .pre .3 })
+loop-holds c = (
+  omega arith,
+  refl,
+  let e = c .before .before-lower .ensures in let z : c .before .before .args .f .order - 0 ≡
+      c .before .before .args .f .order = omega arith in rw z (omega (arith, above-all (c .before .before .args .f .order))),
+  record
+      { is = refl; small = c .before .before .pre .3 },
+)
 
 -- the turn is one of the order's
 turn : (c : tie.In-loop Inv-loop μ-loop) → c .before .loop .t < c .before .before .before .before .args .f .order
@@ -79,7 +86,8 @@ sub-m-2 c = omega arith
 
 -- where the row of this turn starts
 place : (c : tie.In-loop Inv-loop μ-loop) →
-    let f = c .before .before .before .before .args .f in c .before .loop .p ≡ f .entries + above (f .order) (f .order - 1 - c .before .loop .t) + c .before .loop .t
+    let f = c .before .before .before .before .args .f in c .before .loop .p ≡ f .entries + above (f .order)
+    (f .order - 1 - c .before .loop .t) + c .before .loop .t
 unfolding above
 place c =
     let f = c .before .before .before .before .args .f in
@@ -96,8 +104,15 @@ right-sum-requires : tie.Need-right-sum-requires Inv-loop μ-loop
 right-sum-requires c κs =
     let i = c .before .before in
     let l = i .before in
-    let s = l .before .before .before in
-    ((s .pre .0, (let l = turn i in omega arith), l .loop .inv .3 .small), s .pre .1, (let e = place i in omega (arith, upper-at (s .args .f) (l .before .before .before .args .f .order - 1 - l .loop .t) (s .pre .1))))
+    let s = l .before .before .before in (
+      (s .pre .0, (let l = turn i in omega arith), l .loop .inv .3 .small),
+      s .pre .1,
+      (let e = place i in omega (
+        arith,
+        upper-at (s .args .f) (l .before .before .before .args .f .order - 1 - l .loop .t)
+            (s .pre .1),
+      )),
+    )
 
 -- the rounded sum, as it was read
 sum :
@@ -105,15 +120,20 @@ sum :
     let i = c .before .before .before in
     let l = i .before in
     let s = l .before .before .before in
-    toZ w64 (ofZ w64 (c .right-sum .result)) ≡ roundedSum (s .args .rule) (s .args .sheet .now) (s .args .f) (l .loop .x) (l .before .before .before .args .f .order - 1 - l .loop .t)
+    toZ w64 (ofZ w64 (c .right-sum .result)) ≡ roundedSum (s .args .rule) (s .args .sheet .now) (s .args .f) (l .loop .x)
+    (l .before .before .before .args .f .order - 1 - l .loop .t)
 sum c = back w64 _ (c .right-sum .ok) ∙ c .right-sum .ensures
 
 undone-at-requires : tie.Need-undone-at-requires Inv-loop μ-loop
 undone-at-requires c κs =
     let i = c .before .before .before in
     let l = i .before in
-    let s = l .before .before .before in
-    ((s .pre .0, (let l = turn i in omega arith), l .loop .inv .3 .small), rw (sum c) (rounded-sum-small (s .pre .0) (l .before .before .before .args .f .order - 1 - l .loop .t) (let l = turn i in omega arith) (s .args .rule) (l .loop .inv .3 .small)))
+    let s = l .before .before .before in (
+      (s .pre .0, (let l = turn i in omega arith), l .loop .inv .3 .small),
+      rw (sum c)
+          (rounded-sum-small (s .pre .0) (l .before .before .before .args .f .order - 1 - l .loop .t)
+          (let l = turn i in omega arith) (s .args .rule) (l .loop .inv .3 .small)),
+    )
 
 value :
     (c : tie.After-undone-at Inv-loop μ-loop) →
@@ -182,7 +202,8 @@ loop-again c =
     let s = l .before .before .before in (
       omega arith,
       l .loop .inv .1,
-      let e = place i in let z : s .args .f .order - (l .loop .t + 1) ≡ s .args .f .order - 1 - l .loop .t = omega arith in rw z (omega arith),
+      let e = place i in let z : s .args .f .order - (l .loop .t + 1) ≡ s .args .f .order - 1 - l .loop .t = omega arith in rw z
+          (omega arith),
       rw (value (c .before .before), reads w32 (held c) tt) (filled-more (fills s) (turn i) (l .loop .inv .3) (held c)),
     )
 
@@ -194,4 +215,5 @@ returns-2 c =
 pub upper-back-spec : {M : Type 1} → statement M
 upper-back-spec =
     tie.close
-    (tie.spec Inv-loop μ-loop before-lower-requires add-p loop-holds sub-m sub-m-2 sub-p right-sum-requires undone-at-requires is-within-requires returns cast-x mul-x array-set-from-x add-t loop-less loop-again returns-2)
+    (tie.spec Inv-loop μ-loop before-lower-requires add-p loop-holds sub-m sub-m-2 sub-p right-sum-requires undone-at-requires
+    is-within-requires returns cast-x mul-x array-set-from-x add-t loop-less loop-again returns-2)

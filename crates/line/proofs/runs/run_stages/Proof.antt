@@ -37,8 +37,13 @@ count-at-requires-2 c κs = count-counts (c .before .pre .0)
 
 loop-holds : tie.Need-loop-holds Inv-loop μ-loop
 loop-holds c =
-    let s = c .before .before in
-    (omega arith, c .before .count-at .ensures, c .count-at2 .ensures, run-starts (s .args .run) (s .args .sheet .now) (s .pre .2))
+    let s = c .before .before in (
+      omega arith,
+      c .before .count-at .ensures,
+      c .count-at2 .ensures,
+      run-starts (s .args .run) (s .args .sheet .now)
+          (s .pre .2),
+    )
 
 -- the stage in turn
 in-turn : (c : tie.In-loop Inv-loop μ-loop) → c .before .loop .t < count (c .before .before .before .before .args .sheet .now) 1
@@ -117,4 +122,5 @@ returns-2 c =
 pub run-stages-spec : {M : Type 1} → statement M
 run-stages-spec =
     tie.close
-    (tie.spec Inv-loop μ-loop count-at-requires count-at-requires-2 loop-holds nth-start-requires run-stage-requires add-t13 returns add-t loop-less loop-again returns-2)
+    (tie.spec Inv-loop μ-loop count-at-requires count-at-requires-2 loop-holds nth-start-requires run-stage-requires add-t13
+    returns add-t loop-less loop-again returns-2)

@@ -1,5 +1,4 @@
 -- The sign, the number and the rounded sum are small, and so is what is made of them.
-use borrow.Author.Needs.{needs}
 use mathlib.Core.Path.{_∙_}
 use native.Mathlib.Omega.{arith}
 use mir.Facts.{toZ-ofZ}
@@ -42,4 +41,5 @@ returns c =
 pub applied-at-spec : {M : Type 1} → statement M
 applied-at-spec =
     tie.close
-    (tie.spec add-applied mul-applied shared-slice-copy-out-applied mul-applied-2 element-copy-out-applied applied-requires returns)
+    (tie.spec add-applied mul-applied shared-slice-copy-out-applied mul-applied-2 element-copy-out-applied applied-requires
+    returns)

@@ -1,5 +1,4 @@
 -- The sign, the number and the rounded sum are small, and so is what is made of them.
-use borrow.Author.Needs.{needs}
 use mathlib.Core.Path.{_∙_}
 use native.Mathlib.Omega.{arith}
 use mir.Facts.{toZ-ofZ}
