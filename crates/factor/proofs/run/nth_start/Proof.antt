@@ -7,7 +7,7 @@ use lib.ListN.{getD}
 use Rattle.rules.specs.Numbers.{count}
 use Rattle.rules.specs.Answers.{start}
 use Rattle.laws.specs.Accepted.{accepted-count, count-counts}
-use Rattle.factor.specs.Tasks.{nthStage, stage-below}
+use Rattle.factor.specs.Tasks.{stage-below}
 use Rattle.factor.proofs.run.nth_start.Statement.{statement}
 use Rattle.factor.proofs.run.nth_start.Tie as tie
 
@@ -39,7 +39,9 @@ there :
 there c = c .before .before .pre .1 .entry _ (below c)
 
 cast-result : tie.Need-cast-result
-cast-result c = let n = c .before in rw (there n) (let l = n .before .before .pre .0 .each _ (below n) .kind .there in omega arith)
+cast-result c =
+    let n = c .before in
+    rw (there n) (let l = n .before .before .pre .0 .each _ (below n) .kind .there in omega arith)
 
 returns : tie.Need-returns
 returns c =
