@@ -89,7 +89,7 @@ loop-again c =
     let e = c .before .count-at .ensures in
     let free = rw e at (c .if4 .left) in
     let h = marked-more (a .p) (l .loop .k) (omega arith) (row (c .before .before)) free (l .loop .inv .2) in
-    (omega arith, l .loop .inv .1, rw e h, length-set (l .loop .used) _ true ∙ l .loop .inv .3)
+    (omega arith, l .loop .inv .1, rw e h, length-set (l .loop .used) _ _ ∙ l .loop .inv .3)
 
 returns-5 : tie.Need-returns-5 Inv-loop μ-loop
 returns-5 c t =
