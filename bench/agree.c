@@ -67,14 +67,14 @@ static void some_kinds(char kinds[COUNT + 1])
 	kinds[many] = 0;
 }
 
-// Of entries that are large or small, or where halves are frequent.
+// Of entries that are large or small; or where halves are frequent; or few and whole, so that numbers at the bound stay near it.
 static struct sheet some_sheet(const char *kinds)
 {
 	struct sheet s = made(some_order(), kinds, ENTRY >> between(0, 8));
-	if (once_in(4))
-		for (size_t k = 2; k < s.len; k++)
-			if (s.at[k] < -1 || s.at[k] > ORDER)
-				s.at[k] &= ~2047;
+	int32_t sort = between(1, 4);
+	for (size_t k = 2; k < s.len && sort > 2; k++)
+		if (s.at[k] < -1 || s.at[k] > ORDER)
+			s.at[k] = sort == 3 ? s.at[k] & ~2047 : once_in(10) ? 4096 * between(-1, 1) : 0;
 	return s;
 }
 
@@ -95,11 +95,12 @@ static void spoil(struct sheet *s)
 
 static void some_block(int32_t *x, size_t n)
 {
-	static const int32_t beyond[] = {SAMPLE + 1, -SAMPLE - 1, INT32_MAX, INT32_MIN};
-	bool at_bound = once_in(8);
+	static const int32_t edge[] = {SAMPLE, -SAMPLE, SAMPLE, -SAMPLE, 1, -1, 0, 0},
+			     beyond[] = {SAMPLE + 1, -SAMPLE - 1, INT32_MAX, INT32_MIN};
+	bool at_edge = once_in(4);
 	int32_t most = SAMPLE >> between(0, 14);
 	for (size_t k = 0; k < n; k++)
-		x[k] = at_bound ? (once_in(2) ? SAMPLE : -SAMPLE) : between(-most, most);
+		x[k] = at_edge ? edge[between(0, 7)] : between(-most, most);
 	if (once_in(20))
 		x[between(0, (int32_t)n - 1)] = beyond[between(0, 3)];
 }

@@ -193,7 +193,8 @@ INLINE uint32_t single(const struct stage *t, size_t n1, size_t n2, int32_t *x)
 	return bad | put(&own[q], corner);
 }
 
-// Back: the rows that are not r, then row r over them, and last the corner over all.
+// Back: the rows that are not r, then row r over them, and last the corner over all. Here w has 0 in place q, so that whatever
+// stands there is not in the sums.
 INLINE uint32_t single_back(const struct stage *t, size_t n1, size_t n2, int32_t *x)
 {
 	size_t r = t->r, q = t->q;
@@ -217,7 +218,6 @@ INLINE uint32_t single_back(const struct stage *t, size_t n1, size_t n2, int32_t
 	}
 	if (bad)
 		return bad;
-	own[q] = 0;
 	int64_t sum = 4096 * (flip(m[q], v[q]) + flip(t->signs[r], sum_of(w, own, n2))) + wide_sum(w, v, n2);
 	return put(&own[q], flip(t->signs[r] ^ m[q], corner - R2(sum)));
 }
