@@ -144,13 +144,13 @@ void agree_on_many(int cases)
 		row = some_sheet(kinds);
 		agree_on_recipe(&col, k % 2 ? &row : NULL);
 	}
-	printf("Equal answers, outputs and bytes of both: %zu accepted; refused", answers[0]);
+	printf("Answers, outputs and bytes of both are equal: %zu accepted, and refused, by number,\n", answers[0]);
 	for (size_t k = 1; k <= MOST_NUMBER; k++) {
-		printf(" %zu:%zu", k, answers[k]);
+		printf("%s%zu: %zu", k > 1 ? ", " : "", k, answers[k]);
 		if (!answers[k]) {
 			printf(": the cases leave that number out\n");
 			exit(1);
 		}
 	}
-	printf("\n");
+	printf("\n\n");
 }

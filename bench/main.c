@@ -172,9 +172,8 @@ int main(int argc, char **argv)
 	if (argc > 3)
 		seed(strtoull(argv[3], NULL, 10));
 	agree_on_many(CASES);
-	printf("The library and the best C for the same answers, by turns in one process: ns for a block, the lower quartile of\n"
-	       "%d rounds (lines of 3 and 4: %d), a round being 1,000 calls or a strip of 1,000 blocks. To be read alone on the\n"
-	       "machine.\n\n",
+	printf("The library and the best C for the same answers, in one run, by turns; to be read alone on the machine. ns for a\n"
+	       "block: the lower quartile of %d rounds (lines of 3 and 4: %d), each of 1,000 calls or a strip of 1,000 blocks.\n\n",
 	       rounds, SHORT * rounds);
 	printf("%-28s %-6s  %-7s %10s %10s %7s %6s\n", "recipe", "call", "way", "library", "C", "ratio", "aim");
 	time_line("line of 4, built-in", built_in(), 1.35, 0);
