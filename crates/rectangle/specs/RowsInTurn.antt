@@ -2,12 +2,14 @@
 -- block before all rows (`row-unwritten`, `element-same`).
 use mathlib.Core.Bool.{Bool, true, false}
 use mathlib.Core.List.{List}
+use mathlib.Core.Logic.{_≢_}
 use mathlib.Core.Path.{_≡_, refl, ap, _∙_}
 use Prim.Native.Nat.{ℕ, _+_, _*_, _≤_, _<_}
 use native.Mathlib.Nat.{mul-le-mul}
 use native.Mathlib.Omega.{arith}
 use lib.IntN.{ℤ}
 use lib.ListN.{length}
+use Rattle.rules.specs.declared.Kind.the-variants.{Permutation}
 use Rattle.rules.specs.declared.Rule.{Rule}
 use Rattle.factor.specs.declared.Layout.{Layout}
 use Rattle.factor.specs.declared.run.Task.{Task}
@@ -26,6 +28,8 @@ pub record Weighable (task : Task) (c : List ℤ) (fa : Layout) (r : List ℤ) (
   pub row : InSheet r fb
   pub low1 : fa .row < fa .order
   pub low2 : fb .row < fb .order
+  pub alike : fa .kind ≡ fb .kind
+  pub weighs : fb .kind ≢ Permutation
   pub small : Bounded (limitOf task) x
   pub long : length x ≡ 256
 

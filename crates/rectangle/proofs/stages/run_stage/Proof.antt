@@ -72,6 +72,8 @@ run-weights-requires c κs =
       row = in-sheet (p .most2) (p .row) (λ z. q (p .match ∙ z));
       low1 = row-inside (p .some1) (p .column);
       low2 = row-inside (p .some2) (p .row);
+      alike = p .match;
+      weighs = λ z. q (p .match ∙ z);
       small = s .pre .1;
       long = s .pre .2;
     })

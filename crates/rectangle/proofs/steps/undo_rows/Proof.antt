@@ -28,7 +28,16 @@ undo-row-requires c κs =
     let t = c .before .before in
     let h = t .before .before .pre in
     let a = t .before .loop .inv .1 in
-    (h .column, h .row, turn-below h (t .loop-test .taken) (c .before .nth-row .ensures), h .low2, a .small, a .long)
+    record {
+      column = h .column;
+      row = h .row;
+      below = turn-below h (t .loop-test .taken) (c .before .nth-row .ensures);
+      low = h .low2;
+      small = a .small;
+      long = a .long;
+      alike = h .alike;
+      weighs = h .weighs;
+    }
 
 returns : tie.Need-returns Inv-loop μ-loop
 unfolding limitOf elementOf rowOrder
