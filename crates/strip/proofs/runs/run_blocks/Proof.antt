@@ -1,6 +1,6 @@
 -- After k blocks the strip is done up to there (`BlocksDone`): a turn's part of the output comes back as its block (`done-step`).
 use mathlib.Core.Path.{_≡_, refl}
-use Prim.Native.Nat.{ℕ, _+_, _-_, _*_, _≤_}
+use Prim.Native.Nat.{ℕ, _+_, _-_, _*_, _^_, _≤_, _<_}
 use native.Mathlib.Omega.{arith}
 use lib.ListN.{length, take, drop}
 use borrow.Author.Needs.{needs}
@@ -14,7 +14,7 @@ use Rattle.strip.proofs.runs.run_blocks.Statement.{statement}
 use Rattle.strip.proofs.runs.run_blocks.Tie as tie
 
 abbrev Inv-loop : tie.InvT-loop
-Inv-loop shape run col row n x columns rows y₀ bytes₀ k₀ k-end y bytes k =
+Inv-loop shape run col row n x y₀ bytes₀ columns rows k₀ k-end y bytes k =
     (k ≤ length bytes₀)
     × (k-end ≡ length bytes₀)
     × (length y ≡ length y₀)
@@ -22,7 +22,7 @@ Inv-loop shape run col row n x columns rows y₀ bytes₀ k₀ k-end y bytes k =
     × BlocksDone (planOf shape col row) (callOf run (planOf shape col row)) x y₀ bytes₀ k y bytes
 
 abbrev μ-loop : tie.MeasureT-loop
-μ-loop shape run col row n x columns rows y₀ bytes₀ k₀ k-end y bytes k = k-end - k
+μ-loop shape run col row n x y₀ bytes₀ columns rows k₀ k-end y bytes k = k-end - k
 
 -- the block of this turn ends within the slices
 fit : (c : tie.In-loop Inv-loop μ-loop) →
@@ -44,10 +44,10 @@ sheets :
 sheets s = sheets-checked (s .args .shape) (s .args .col .now) (s .args .row .now) (s .pre .1)
 
 starts-of-requires : tie.Need-starts-of-requires Inv-loop μ-loop
-starts-of-requires c κs = sheets c .0
+starts-of-requires c κs = sheets (c .before) .0
 
 row-starts-requires : tie.Need-row-starts-requires Inv-loop μ-loop
-row-starts-requires c κs = c .before .pre .1
+row-starts-requires c κs = c .before .before .pre .1
 
 -- the parts that are lent on are blocks
 parts :
@@ -102,8 +102,8 @@ part-run-block-end-2 c = let h = fit (c .before .before .before) in search needs
 
 run-block-requires : tie.Need-run-block-requires Inv-loop μ-loop
 run-block-requires c κs =
-    let d = c .before .before .before .before .before .before .before in
-    let s = d .before .before in
+    let d = c .before .before .before .before .before .before in
+    let s = d .before .before .before in
     (s .pre .0, s .pre .1, parts c .0, parts c .1, d .before .starts-of .ensures, d .row-starts .ensures)
 
 cast-bytes : tie.Need-cast-bytes Inv-loop μ-loop
@@ -121,8 +121,14 @@ cast-bytes c =
 slice-write-bytes : tie.Need-slice-write-bytes Inv-loop μ-loop
 slice-write-bytes c = search needs
 
+-- a slice's length is a number of 64 bits
+short : (s : tie.Start Inv-loop μ-loop) → length (s .args .bytes .now) < 2 ^ 64
+short s = search needs
+
 add-k : tie.Need-add-k Inv-loop μ-loop
-add-k c = search needs
+add-k c =
+    let i = c .before .before .before .before .before .before .before in
+    omega (arith, i .loop-test .taken, i .before .loop .inv .1, short (i .before .before .before .before .before))
 
 loop-less : tie.Need-loop-less Inv-loop μ-loop
 loop-less c = search needs
