@@ -26,12 +26,11 @@ abbrev μ-loop : tie.MeasureT-loop
 
 -- the block of this turn ends within the slices
 fit : (c : tie.In-loop Inv-loop μ-loop) →
-    c .before .loop .k * c .before .before .before .before .before .args .n + c .before .before .before .before .before .args .n ≤ length
-    (c .before .before .before .before .before .args .bytes .now) * c .before .before .before .before .before .args .n
+    let a = c .before .before .before .before .before .args in
+    c .before .loop .k * a .n + a .n ≤ length (a .bytes .now) * a .n
 fit c =
-    let l = c .before .loop in
-    block-fits (l .k) (length (c .before .before .before .before .before .args .bytes .now)) (c .before .before .before .before .before .args .n)
-    (omega (arith, c .loop-test .taken))
+    let a = c .before .before .before .before .before .args in
+    block-fits (c .before .loop .k) (length (a .bytes .now)) (a .n) (omega (arith, c .loop-test .taken))
 
 -- from the start of a part to its end
 width : (a n : ℕ) → a + n - a ≡ n
@@ -169,6 +168,6 @@ returns c =
 pub run-blocks-spec : {M : Type 1} → statement M
 run-blocks-spec =
     tie.close
-    (tie.spec Inv-loop μ-loop starts-of-requires row-starts-requires loop-holds mul-o add-e mul-run-block sub-run-block part-run-block-start part-run-block-end
-    mul-run-block-2 sub-run-block-2 part-run-block-start-2 part-run-block-end-2 run-block-requires cast-bytes slice-write-bytes
-    add-k loop-less loop-again same-length same-length-2 returns)
+    (tie.spec Inv-loop μ-loop starts-of-requires row-starts-requires loop-holds mul-o add-e mul-run-block sub-run-block
+    part-run-block-start part-run-block-end mul-run-block-2 sub-run-block-2 part-run-block-start-2 part-run-block-end-2
+    run-block-requires cast-bytes slice-write-bytes add-k loop-less loop-again same-length same-length-2 returns)
