@@ -2,13 +2,15 @@
 ghost use mathlib.Core.Path.{_≡_};
 ghost use lib.ListN.{length};
 ghost use Rattle.rules.specs.Calls.{Gives};
+ghost use Rattle.sheet.specs.Starts.{Starts};
 ghost use Rattle.factor.specs.Tasks.{callOf};
-ghost use Rattle.strip.specs.Plans.{planOf, TakesBlocks};
+ghost use Rattle.strip.specs.Plans.{planOf, rowSheet, TakesBlocks};
 use factor::run::Run;
 use rules::Answer;
 use sheet::check;
 use sheet::check_pair;
 use sheet::factors::count_at;
+use sheet::factors::starts_of;
 
 // "both shapes": lines over one sheet, or rectangles over two. A line looks at the column sheet alone.
 pub enum Shape {
@@ -37,6 +39,17 @@ pub fn size_of(shape: Shape, col: &[i32], row: &[i32]) -> usize
     }
 }
 
+// Where the factors of the second sheet start. A line has no second sheet, and its own serves.
+pub fn row_starts(shape: Shape, col: &[i32], row: &[i32]) -> [u16; 32]
+    requires { ⌜ planOf shape (now col) (now row) .sheets .number ≡ 0 ⌝ }
+    ensures { λ r. ⌜ Starts (rowSheet shape (now (col .entry)) (now (row .entry))) r ⌝ }
+{
+    match shape {
+        Shape::Line => return starts_of(col),
+        Shape::Joint => return starts_of(row),
+    }
+}
+
 // The single call: its output into y, and its answer.
 pub fn run_block(
     shape: Shape,
@@ -51,7 +64,8 @@ pub fn run_block(
     requires { ⌜ TakesBlocks (run .task)
         × (planOf shape (now col) (now row) .sheets .number ≡ 0)
         × (length (now x) ≡ planOf shape (now col) (now row) .size)
-        × (length (now y) ≡ planOf shape (now col) (now row) .size) ⌝ }
+        × (length (now y) ≡ planOf shape (now col) (now row) .size)
+        × Starts (now col) (now columns) × Starts (rowSheet shape (now col) (now row)) (now rows) ⌝ }
     ensures { λ a. ⌜ Gives a (now (y .exit))
         (callOf run (planOf shape (now (col .entry)) (now (row .entry))) (now (x .entry)) (now (y .entry))) ⌝ }
 {

@@ -7,6 +7,7 @@ ghost use Rattle.strip.specs.Plans.{planOf, outputsBy, bytesBy, stripBy,
 ghost use Rattle.strip.specs.Lengths.{stripLengths};
 use crate::blocks::Shape;
 use crate::blocks::check_sheets;
+use crate::blocks::row_starts;
 use crate::blocks::run_block;
 use crate::blocks::size_of;
 use factor::lengths::check_length;
@@ -50,7 +51,7 @@ fn run_blocks(
         (now (x .entry)) (now (y .entry))) ⌝ }
 {
     let columns = starts_of(col);
-    let rows = starts_of(row);
+    let rows = row_starts(shape, col, row);
     for k in 0..bytes.len() {
         let o = k * n;
         let e = o + n;
