@@ -26,7 +26,7 @@ use Rattle.rules.specs.Laws.GoodStages.{Permutes}
 use Rattle.rules.specs.Laws.Membership.{true-false}
 use Rattle.rules.specs.Laws.Lists.{set-at, set-other, same-list}
 use Rattle.factor.specs.declared.Layout.{Layout}
-use Rattle.factor.specs.Layouts.{row, rowOf}
+use Rattle.factor.specs.Layouts.{rowOf}
 use Rattle.factor.specs.LayoutInSheet.{InSheet}
 use Rattle.factor.specs.SumBounds.{Bounded}
 use Rattle.factor.specs.UndoingOrder.{nthUndone, undoing-permutes}
