@@ -6,22 +6,22 @@ machine=$(uname -m)
 kit=${RATTLE_HOME:-$(dirname "$(dirname "$(readlink -f "$(command -v rt)")")")}
 tools=$kit/on/$machine/toolchain lib=$kit/on/$machine/toolchain/lib
 room=$PWD/target/bench x86=(--target=x86_64-unknown-linux-gnu -march=x86-64)
-twins=(twin twin2)
+twins=(check line rectangle)
 mkdir -p "$room"
 
 archive() { # KIT: target/staticlib/libbench.a, made over that kit
   RATTLE_HOME=$1 rt staticlib bench >"$room/rt.log" 2>&1 || { cat "$room/rt.log"; exit 1; }
 }
 
-c() { # WORDS: the kit's clang over C
-  "$tools/bin/clang" "$@" -O3 -fPIC -Wall -Wextra -isystem "$(gcc -print-file-name=include)" -isystem /usr/include \
-    -isystem "/usr/include/$(gcc -dumpmachine)"
+c() { # WORDS: the kit's clang over C; where the order is no literal it cannot unroll, and need not say so
+  "$tools/bin/clang" "$@" -O3 -fPIC -Wall -Wextra -Wno-pass-failed -isystem "$(gcc -print-file-name=include)" \
+    -isystem /usr/include -isystem "/usr/include/$(gcc -dumpmachine)"
 }
 
 # The loader binds memcpy and memset before main: if it did so at their first call, a measured stack would be the loader's.
-program() { # NAME: target/bench/NAME, of bench/NAME.c, the sheets, the twins and the archive
+program() { # NAME MORE: target/bench/NAME, of bench/NAME.c, what it needs more, the sheets, the twins and the archive
   local s objects=()
-  for s in "$1" sheets "${twins[@]}"; do
+  for s in "$@" sheets "${twins[@]}"; do
     c "${x86[@]}" -c "bench/$s.c" -o "$room/$s.o"
     objects+=("$room/$s.o")
   done

@@ -13,15 +13,14 @@ fn wide(z: i32) -> i64
     z as i64
 }
 
-// Whether every number of the input is in bound.
+// Whether every number of the input is in bound. No number ends the loop, so that several can be looked at together.
 pub fn is_inside(x: &[i32]) -> bool
     ensures { λ r. ⌜ r ≡ inside bound (length (now (x .entry))) (now (x .entry)) ⌝ }
 {
     let n = x.len();
+    let mut fine = true;
     for k in 0..n {
-        if !is_within(wide(x[k]), Block::SAMPLE) {
-            return false;
-        }
+        fine = fine & is_within(wide(x[k]), Block::SAMPLE);
     }
-    true
+    fine
 }

@@ -1,8 +1,13 @@
 // Which run it is, and how it ended: one record for each, for lines and for rectangles.
 ghost use mathlib.Core.Path.{_≡_};
 ghost use Prim.Native.Nat.{_<_};
+ghost use Rattle.rules.specs.Numbers.{count};
+ghost use Rattle.rules.specs.Answers.{start};
+ghost use Rattle.laws.specs.Accepted.{Accepted};
+ghost use Rattle.sheet.specs.Starts.{Starts};
 ghost use Rattle.factor.specs.Tasks.{byNearest, isInverse, inputsOf, numberOf, nthStage};
 use rules::Rule;
+use sheet::factors::count_at;
 
 // Numbers through the stages, first to last; back through them, last to first; or the allowances of the coefficients, first to
 // last.
@@ -76,4 +81,12 @@ pub fn nth_stage(task: Task, many: usize, t: usize) -> usize
         return many - 1 - t;
     }
     t
+}
+
+// Where that factor starts.
+pub fn nth_start(task: Task, sheet: &[i32], starts: &[u16; 32], t: usize) -> usize
+    requires { ⌜ Accepted (now sheet) × Starts (now sheet) (now starts) × (t < count (now sheet) 1) ⌝ }
+    ensures { λ r. ⌜ r ≡ start (now (sheet .entry)) (nthStage task (count (now (sheet .entry)) 1) t) ⌝ }
+{
+    starts[nth_stage(task, count_at(sheet, 1), t)] as usize
 }

@@ -21,7 +21,7 @@ pub fn with_term(sum: i64, a: i32, x: i32) -> i64
 
 // m entries, each times the number that stands across from it. The loop counts from 0 over two parts: with other places
 // the compiler takes four products at a time, which the baseline machine has no instruction for.
-fn products_sum(a: &[i32], x: &[i32], m: usize) -> i64
+pub fn products_sum(a: &[i32], x: &[i32], m: usize) -> i64
     requires { ⌜ Terms (now a) (now x) m ⌝ }
     ensures { λ r. ⌜ r ≡ sum m (λ j. at (now (a .entry)) j *ℤ at (now (x .entry)) j) ⌝ }
 {
@@ -33,7 +33,7 @@ fn products_sum(a: &[i32], x: &[i32], m: usize) -> i64
 }
 
 // The same, from a column on.
-fn products_sum_from(a: &[i32], x: &[i32], column: usize, m: usize) -> i64
+pub fn products_sum_from(a: &[i32], x: &[i32], column: usize, m: usize) -> i64
     requires { ⌜ (column ≤ length (now x)) × Terms (now a) (drop column (now x)) m ⌝ }
     ensures { λ r. ⌜ r ≡ sum m (λ j. at (now (a .entry)) j *ℤ at (drop column (now (x .entry))) j) ⌝ }
 {

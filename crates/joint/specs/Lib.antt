@@ -4,5 +4,6 @@ pub mod Allowances
 pub mod RecoveredSums
 pub mod RowsInPlace
 pub mod Triangles
+pub mod TrianglesUndone
 pub mod SingleRows
 pub mod SingleRowsInPlace

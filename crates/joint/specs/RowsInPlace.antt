@@ -2,6 +2,7 @@
 -- beyond it.
 use mathlib.Core.Bool.{Bool, true, false}
 use mathlib.Core.List.{List}
+use mathlib.Core.Logic.{_≢_}
 use mathlib.Core.Path.{_≡_, refl, sym, ap, _∙_, subst}
 use Prim.Native.Nat.{ℕ, zero, suc, _+_, _-_, _*_, _≤_, _<_}
 use native.Mathlib.Nat.{add-suc, add-zero}
@@ -12,7 +13,8 @@ use lib.IntN.{ℤ, pos, natAbs}
 use lib.ListN.{length, set}
 use Rattle.laws.specs.Tests.{apart}
 use Rattle.rules.specs.declared.Rule.{Rule}
-use Rattle.rules.specs.Numbers.{unit, at}
+use Rattle.rules.specs.declared.Kind.the-variants.{Permutation}
+use Rattle.rules.specs.Numbers.{unit, bound, at}
 use Rattle.rules.specs.Stages.{fill, inside}
 use Rattle.rules.specs.Laws.GoodStages.{Permutes}
 use Rattle.rules.specs.Laws.Lists.{length-fill, fill-at, fill-past, same-list}
@@ -22,6 +24,7 @@ use Rattle.factor.specs.declared.run.Task.{Task}
 use Rattle.factor.specs.declared.run.Task.the-variants.{Forward, Inverse, Allowance}
 use Rattle.factor.specs.declared.run.Run.{Run}
 use Rattle.factor.specs.Layouts.{rowOf}
+use Rattle.factor.specs.LayoutInSheet.{InSheet}
 use Rattle.factor.specs.UndoingOrder.{nthUndone}
 use Rattle.factor.specs.Tasks.{isInverse}
 use Rattle.factor.specs.SumBounds.{Bounded, beyond-there}
@@ -40,6 +43,17 @@ pub record RowDone (most : ℕ) (step : List ℤ → ℕ → ℤ) (q : ℕ → �
   pub through : ok ≡ true → (y ≡ inPlace step q m x) × Bounded most y
   pub stopped : ok ≡ false → Stopped most step q m x
   pub keeps : length y ≡ length x
+
+-- what row i asks: two factors of one kind that has weights, and a block in bound
+pub record RowAsks (c : List ℤ) (fa : Layout) (r : List ℤ) (fb : Layout) (i : ℕ) (x : List ℤ) : Type 0 where
+  pub column : InSheet c fa
+  pub row : InSheet r fb
+  pub below : i < fa .order
+  pub low : fb .row < fb .order
+  pub small : Bounded bound x
+  pub long : length x ≡ 256
+  pub alike : fa .kind ≡ fb .kind
+  pub weighs : fb .kind ≢ Permutation
 
 -- the elements of row i of rows of n, in reading order
 abbrev pub inRow : ℕ → ℕ → ℕ → ℕ
@@ -141,12 +155,15 @@ module _ {most a : ℕ} (b : ℕ) {step : List ℤ → ℕ → ℤ} {q : ℕ →
   pub run-on : {z : List ℤ} {ok : Bool} → RowDone most step q a x y true → RowDone most step (onward q a) b y z ok →
       RowDone most step q (a + b) x z ok
   run-on {z} {ok} h k = record {
-    through = λ t. (k .through t .0 ∙ ap (inPlace step (onward q a) b) (h .through refl .0)
-        ∙ in-place-on step q (onward q a) a b x (λ u l. refl), k .through t .1);
+    through = λ t. (
+      k .through t .0 ∙ ap (inPlace step (onward q a) b) (h .through refl .0)
+          ∙ in-place-on step q (onward q a) a b x (λ u l. refl),
+      k .through t .1,
+    );
     stopped = λ t.
         let s = k .stopped t in
         let e = ap (inPlace step (onward q a) (s .turn)) (h .through refl .0)
-            ∙ in-place-on step q (onward q a) a (s .turn) x (λ u l. refl) in
+        ∙ in-place-on step q (onward q a) a (s .turn) x (λ u l. refl) in
         record { turn = a + s .turn; before = let l = s .before in omega arith; far = rw e at (s .far) };
     keeps = k .keeps ∙ h .keeps;
   }
@@ -166,6 +183,21 @@ run-order {step} {x} p q e h = record {
       };
   keeps = h .keeps;
 }
+
+-- a run of m turns from the first on, and one that follows it up to turn m; n is how many turns there are
+pub run-all : {most : ℕ} {step : List ℤ → ℕ → ℤ} {x y : List ℤ} {ok : Bool} (q : ℕ → ℕ) (m : ℕ) {n : ℕ} → n ≡ m →
+    RowDone most step (onward q 0) (m - 0) x y ok → RowDone most step q n x y ok
+run-all q m e h =
+    let z : m - 0 ≡ m = omega arith in
+    rw e (run-order (onward q 0) q (λ u l. let f : 0 + u ≡ u = omega arith in ap q f) (rw z at h))
+
+pub run-both : {most : ℕ} {step : List ℤ → ℕ → ℤ} {x y z : List ℤ} {ok : Bool} (q : ℕ → ℕ) (a m : ℕ) {n : ℕ} → n ≡ m → a ≤ m →
+    RowDone most step q a x y true → RowDone most step (onward q a) (m - a) y z ok → RowDone most step q n x z ok
+run-both q a m e l h k = let f : a + (m - a) ≡ m = omega arith in rw e (rw f at (run-on (m - a) h k))
+
+pub run-short : {most : ℕ} {step : List ℤ → ℕ → ℤ} {x y : List ℤ} {ok : Bool} (q : ℕ → ℕ) (a m : ℕ) {n : ℕ} → n ≡ m → a ≤ m →
+    ok ≡ false → RowDone most step q a x y ok → RowDone most step q n x y ok
+run-short q a m e l t h = let f : a + (m - a) ≡ m = omega arith in rw (e, t) (rw f at (run-stopped (m - a) (rw t at h)))
 
 -- steps that make the same number in each turn
 pub row-done-along : {most m : ℕ} {q : ℕ → ℕ} {x y : List ℤ} {ok : Bool} (f g : List ℤ → ℕ → ℤ) →

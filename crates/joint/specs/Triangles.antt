@@ -67,16 +67,16 @@ module _ (f : Layout) (j : ℕ) where
   upper-right e = rw e
 
   -- one run of entries is all of them
-  pub lower-entries : f .kind ≡ Lower → (s v : List ℤ) →
-      sum j (λ t. at s (rowOf f j .at + t) *ℤ at v (0 + t)) ≡ entriesSum s (rowOf f j) j (at v)
+  pub lower-entries : f .kind ≡ Lower → {p : ℕ} → p ≡ rowOf f j .at → (s v : List ℤ) →
+      sum j (λ t. at s (p + t) *ℤ at v (0 + t)) ≡ entriesSum s (rowOf f j) j (at v)
   unfolding entriesSum rowBy sum
-  lower-entries e s v = rw e (sum-cong j _ _ (λ t l. rw zero-add) ∙ sym (+ℤ-idr _))
+  lower-entries e q s v = rw (q, e) (sum-cong j _ _ (λ t l. rw zero-add) ∙ sym (+ℤ-idr _))
 
-  pub upper-entries : f .kind ≡ Upper → (s v : List ℤ) →
-      sum (f .order - suc j) (λ t. at s (rowOf f j .at + t) *ℤ at v (j + 1 + t)) ≡ entriesSum s (rowOf f j) j (at v)
+  pub upper-entries : f .kind ≡ Upper → {p m : ℕ} → p ≡ rowOf f j .at → m ≡ f .order - suc j → (s v : List ℤ) →
+      sum m (λ t. at s (p + t) *ℤ at v (j + 1 + t)) ≡ entriesSum s (rowOf f j) j (at v)
   unfolding entriesSum rowBy sum
-  upper-entries e s v =
-      rw e (sum-cong (f .order - suc j) _ _ (λ t l. let z : f .entries + above (f .order) j + 0 + t ≡ f .entries + above (f .order) j + t = omega arith in rw (z, add-one))
+  upper-entries e q g s v =
+      rw (q, g, e) (sum-cong (f .order - suc j) _ _ (λ t l. let z : f .entries + above (f .order) j + 0 + t ≡ f .entries + above (f .order) j + t = omega arith in rw (z, add-one))
       ∙ sym (+ℤ-idl _))
 
 -- the next row's entries

@@ -13,8 +13,8 @@ ghost use Rattle.joint.specs.RowsInPlace.{RowDone, plain, inRow, onward}
 ghost use Rattle.joint.specs.Triangles.{TotalGiven, totalOf, RunGiven, appliedIn};
 use crate::elements::applied_whole;
 use crate::elements::sign_at;
-use crate::elements::with_diagonal;
 use crate::elements::sums_at;
+use crate::elements::with_diagonal;
 use crate::sums::wide_sum;
 use factor::Layout;
 use factor::before_lower;

@@ -14,11 +14,9 @@ ghost use Rattle.joint.specs.Elements.{signAt, diagonalOf, sumsAt, restS
 ghost use Rattle.joint.specs.Elements.{RowGiven, ElementGiven, roundedSum, roundedRest, appliedAt, undoneRest};
 ghost use Rattle.joint.specs.Elements.{mostJoint, appliedFrom, undoneFrom};
 use crate::sums::column_sums;
-use crate::sums::joint_sum;
 use crate::sums::rest_sums;
 use crate::sums::whole_sum;
 use factor::Layout;
-use factor::rounding::applied;
 use factor::rounding::round_joint;
 use factor::rounding::undone;
 use factor::row_of;
@@ -71,51 +69,6 @@ pub fn rest_sums_at(col: &[i32], f: Layout, i: usize, x: &[i32; 256], n: usize, 
     ensures { λ _. ⌜ now (v .exit) ≡ restSumsAt (now (col .entry)) f i (now (x .entry)) n ⌝ }
 {
     rest_sums(col, row_of(f, i), i, x, n, v)
-}
-
-// The rounded sum of the element in column j.
-fn rounded_sum_at(
-    rule: Rule,
-    row: &[i32],
-    f: Layout,
-    j: usize,
-    d: i32,
-    v: &[i64; 16],
-    x: i32,
-) -> i64
-    requires { ⌜ ElementGiven (now row) f j d (now v) x ⌝ }
-    ensures { λ r. ⌜ r ≡ roundedSum rule (now (row .entry)) f j d (now (v .entry)) x ⌝ }
-{
-    let s = joint_sum(
-        row,
-        row_of(f, j),
-        j,
-        diagonal_of(sign_at(row, f, j)),
-        diagonal_of(d),
-        v,
-        x,
-    );
-    round_joint(rule, s)
-}
-
-// What the element becomes.
-pub fn applied_at(
-    rule: Rule,
-    row: &[i32],
-    f: Layout,
-    j: usize,
-    d: i32,
-    v: &[i64; 16],
-    x: i32,
-) -> i64
-    requires { ⌜ ElementGiven (now row) f j d (now v) x ⌝ }
-    ensures { λ r. ⌜ r ≡ appliedAt rule (now (row .entry)) f j d (now (v .entry)) x ⌝ }
-{
-    applied(
-        both_signs(d, sign_at(row, f, j)),
-        x,
-        rounded_sum_at(rule, row, f, j, d, v, x),
-    )
 }
 
 // The rounded sum of the element in column j, where v has nothing of the element's own number.

@@ -17,6 +17,10 @@ use Rattle.line.specs.Steps.{roundedSum}
 abbrev pub mostSum : ℕ
 mostSum = 32 * (mostEntry * mostAllowance)
 
+-- and that sum rounded
+abbrev pub mostRounded : ℕ
+mostRounded = mostSum + 2048
+
 module _ {s : List ℤ} {f : Layout} (h : InSheet s f) (m : ℕ) (l : m < f .order) where
   pub row-of-16 : RowIn s mostOrder (rowOf f m) m
   row-of-16 = row-wide (h .order) (h .row m l)
@@ -24,6 +28,6 @@ module _ {s : List ℤ} {f : Layout} (h : InSheet s f) (m : ℕ) (l : m < f .ord
   pub row-small : {x : List ℤ} → Bounded mostAllowance x → Within mostSum (along (at s) (rowOf f m) m x)
   row-small k = along-small row-of-16 k
 
-  pub rounded-sum-small : (rule : Rule) {x : List ℤ} → Bounded bound x → Within (mostSum + 2048) (roundedSum rule s f x m)
+  pub rounded-sum-small : (rule : Rule) {x : List ℤ} → Bounded bound x → Within mostRounded (roundedSum rule s f x m)
   unfolding roundedSum
   rounded-sum-small rule k = rounded-within rule unit (row-small (bounded-le (omega arith) k))

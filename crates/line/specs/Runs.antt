@@ -12,13 +12,16 @@ use Rattle.rules.specs.Shapes.{lineStage, lineStages}
 use Rattle.rules.specs.Answers.{further}
 use Rattle.rules.specs.Laws.Cuts.{lines-append}
 use Rattle.rules.specs.Laws.GoodStages.{AllGood}
+use Rattle.rules.specs.Laws.Runs.{loop-start}
 use Rattle.rules.specs.Laws.Kinds.{lines-good}
 use Rattle.laws.specs.Accepted.{Accepted, further-next}
 use Rattle.laws.specs.Sound.{sheet-sound, factors-split}
 use Rattle.factor.specs.declared.run.Task.{Task}
 use Rattle.factor.specs.declared.run.Task.the-variants.{Forward, Inverse, Allowance}
-use Rattle.factor.specs.Tasks.{isInverse, nthStage, inOrder}
-use Rattle.factor.specs.StageLoops.{Listed}
+use Rattle.factor.specs.declared.run.Run.{Run}
+use Rattle.factor.specs.SumBounds.{Bounded}
+use Rattle.factor.specs.Tasks.{isInverse, limitOf, nthStage, inOrder, takenBy, runBy}
+use Rattle.factor.specs.StageLoops.{Listed, Stands}
 
 -- the stages of a sheet
 abbrev pub lineStagesOf : List ℤ → List Stage
@@ -82,3 +85,12 @@ unfolding left inOrder factors further
 left-all s Forward = rw sub-zero
 left-all s Inverse = rw sub-zero
 left-all s Allowance = rw sub-zero
+
+-- ---- the run of x that is asked for stands at v after t stages
+abbrev pub RunAt : Run → List ℤ → List ℤ → ℕ → List ℤ → Type 0
+RunAt r s x t v =
+    Stands (limitOf (r .task)) (count s 0) (takenBy r (count s 0)) (left s (count s 0) (count s 1) (r .task))
+    (runBy r (count s 0) (lineStagesOf s) x) t v
+
+pub run-starts : (r : Run) (s : List ℤ) {x : List ℤ} → Bounded (limitOf (r .task)) x → RunAt r s x 0 x
+run-starts r s h = record { small = h; left = rw (left-all s (r .task)) (loop-start _ _ _ _) }

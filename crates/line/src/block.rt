@@ -10,6 +10,7 @@ ghost use Rattle.sheet.specs.Starts.{Starts};
 ghost use Rattle.factor.specs.Tasks.{inputsOf, numberOf, ran};
 ghost use Rattle.factor.specs.PaddedBlocks.{paddedBlock};
 ghost use Rattle.line.specs.Runs.{lineStagesOf};
+use crate::fours::run_four;
 use crate::runs::run_stages;
 use factor::block::copy_front;
 use factor::block::finish;
@@ -28,7 +29,7 @@ fn load(x: &[i32]) -> [i32; 16]
 }
 
 // 11 or 13, or what the run gives in y.
-pub fn run_block(run: Run, s: &[i32], starts: &[u16; 32], x: &[i32], y: &mut [i32]) -> Answer
+fn run_any(run: Run, s: &[i32], starts: &[u16; 32], x: &[i32], y: &mut [i32]) -> Answer
     requires { ⌜ Accepted (now s) × Starts (now s) (now starts)
         × (length (now x) ≡ inputsOf (run .task) (count (now s) 0)) × (length (now y) ≡ count (now s) 0) ⌝ }
     ensures { λ a. ⌜ Gives a (now (y .exit))
@@ -41,4 +42,20 @@ pub fn run_block(run: Run, s: &[i32], starts: &[u16; 32], x: &[i32], y: &mut [i3
     let task = run.task;
     let r = run_stages(run, s, starts, load(x));
     finish(task, r.outcome, &r.block, y)
+}
+
+// The same; a block of four is taken by itself, for its speed.
+pub fn run_block(run: Run, s: &[i32], starts: &[u16; 32], x: &[i32], y: &mut [i32]) -> Answer
+    requires { ⌜ Accepted (now s) × Starts (now s) (now starts)
+        × (length (now x) ≡ inputsOf (run .task) (count (now s) 0)) × (length (now y) ≡ count (now s) 0) ⌝ }
+    ensures { λ a. ⌜ Gives a (now (y .exit))
+        (ranReply (numberOf (run .task)) (ran run (count (now (s .entry)) 0) (lineStagesOf (now (s .entry))) (now (x .entry)))
+        (now (y .entry))) ⌝ }
+{
+    let r = run_four(run, s, starts, x);
+    if !r.ok {
+        return run_any(run, s, starts, x, y);
+    }
+    copy_front(&r.block, y, 4);
+    Answer::accepted()
 }

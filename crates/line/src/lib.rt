@@ -13,9 +13,11 @@ use rules::Rule;
 use sheet::factors::count_at;
 use sheet::factors::starts_of;
 
-mod steps; // what a factor does to the elements
+mod steps; // one element; what a factor does to allowances
+mod kinds; // a loop for each kind
 mod stages; // one stage: the factor at a place of the sheet
 mod runs; // all stages of a sheet
+mod fours; // blocks of four
 pub mod block; // a run of one block over a checked sheet
 
 // 1 to 9, then 10 for the input and for the output, then the run.

@@ -10,7 +10,7 @@ use crate::stages::run_stage;
 use crate::steps::Passed;
 use factor::run::Outcome;
 use factor::run::Run;
-use factor::run::nth_stage;
+use factor::run::nth_start;
 use sheet::factors::count_at;
 
 // The block after the last stage, or the stage that is refused: first to last, or, for an inverse run, last to first.
@@ -24,7 +24,7 @@ pub fn run_stages(run: Run, sheet: &[i32], starts: &[u16; 32], x: [i32; 16]) -> 
     let many = count_at(sheet, 1);
     let mut v = x;
     for t in 0..many {
-        let i = starts[nth_stage(task, many, t)] as usize;
+        let i = nth_start(task, sheet, starts, t);
         let s = run_stage(run, sheet, n, i, v);
         if !s.outcome.ok {
             return Passed {

@@ -1,26 +1,26 @@
-// One factor with weights of a line: applied, undone, and what it does to allowances. The block goes in and comes back by value.
+// One element of a factor with weights, applied and undone; and what the factor does to allowances.
 ghost use mathlib.Core.Path.{_≡_};
 ghost use mathlib.Core.Bool.{cond};
-ghost use Prim.Native.Nat.{_<_};
-ghost use lib.IntN.{pos};
-ghost use Rattle.rules.specs.Numbers.{bound, mostAllowance};
+ghost use Prim.Native.Nat.{_+_, _<_};
+ghost use lib.IntN.{pos, _+ℤ_, _-ℤ_, _*ℤ_};
+ghost use Rattle.whole.specs.Diff.{Within};
+ghost use Rattle.rules.specs.Numbers.{mostAllowance, at};
 ghost use Rattle.rules.specs.Stages.{share, fill};
 ghost use Rattle.factor.specs.Layouts.{along};
 ghost use Rattle.factor.specs.SumBounds.{Bounded, RowIn};
 ghost use Rattle.factor.specs.LayoutInSheet.{InSheet};
 ghost use Rattle.factor.specs.Magnitudes.{Entries, whole, magnitudeAt};
 ghost use Rattle.factor.specs.Steps.{Step};
-ghost use Rattle.line.specs.Steps.{ElementGiven, roundedSum, appliedAt, undoneAt, allowedAt, undoneInPlace};
+ghost use Rattle.line.specs.Steps.{ElementGiven, allowedAt};
+ghost use Rattle.line.specs.LineBounds.{mostRounded};
 use factor::Layout;
 use factor::Row;
 use factor::magnitudes::are_whole;
 use factor::magnitudes::magnitudes;
-use factor::nth_undone;
 use factor::rounding::applied;
 use factor::rounding::is_within;
 use factor::rounding::raise_line;
 use factor::rounding::raised;
-use factor::rounding::round_line;
 use factor::rounding::share_of;
 use factor::rounding::undone;
 use factor::row_of;
@@ -35,85 +35,22 @@ pub struct Passed {
     pub outcome: Outcome,
 }
 
-// The rounded sum of row m.
-fn rounded_sum_at(rule: Rule, sheet: &[i32], f: Layout, m: usize, x: &[i32; 16]) -> i64
-    requires { ⌜ ElementGiven (now sheet) f m (now x) ⌝ }
-    ensures { λ r. ⌜ r ≡ roundedSum rule (now (sheet .entry)) f (now (x .entry)) m ⌝ }
-{
-    round_line(rule, row_sum(sheet, row_of(f, m), m, x))
-}
-
-// What element m becomes.
-fn applied_at(rule: Rule, sheet: &[i32], f: Layout, m: usize, x: &[i32; 16]) -> i64
-    requires { ⌜ ElementGiven (now sheet) f m (now x) ⌝ }
-    ensures { λ r. ⌜ r ≡ appliedAt rule (now (sheet .entry)) f (now (x .entry)) m ⌝ }
+// What element m becomes, by the rounded sum q of its row.
+pub fn applied_at(sheet: &[i32], f: Layout, m: usize, x: &[i32; 16], q: i64) -> i64
+    requires { ⌜ ElementGiven (now sheet) f m (now x) × Within mostRounded q ⌝ }
+    ensures { λ r. ⌜ r ≡ (at (now (sheet .entry)) (f .signs + m) *ℤ at (now (x .entry)) m) +ℤ q ⌝ }
 {
     let signs = f.signs;
-    applied(sheet[signs + m], x[m], rounded_sum_at(rule, sheet, f, m, x))
+    applied(sheet[signs + m], x[m], q)
 }
 
-// A factor with weights, applied: every element from the old block.
-pub fn apply_weights(rule: Rule, sheet: &[i32], f: Layout, x: [i32; 16]) -> Passed
-    requires { ⌜ InSheet (now sheet) f × Bounded bound x ⌝ }
-    ensures { λ r. ⌜ Step bound (f .order) (fill (f .order) (appliedAt rule (now (sheet .entry)) f x) x) (r .outcome .ok)
-        (r .block) ⌝ }
-{
-    let n = f.order;
-    let mut y = x;
-    for m in 0..n {
-        let z = applied_at(rule, sheet, f, m, &x);
-        if !is_within(z, Block::SAMPLE) {
-            return Passed {
-                block: x,
-                outcome: Outcome {
-                    ok: false,
-                    stage: 1,
-                },
-            };
-        }
-        y[m] = z as i32;
-    }
-    Passed {
-        block: y,
-        outcome: Outcome { ok: true, stage: 0 },
-    }
-}
-
-// What element m was, from what it is and the elements recovered before it.
-fn undone_at(rule: Rule, sheet: &[i32], f: Layout, m: usize, x: &[i32; 16]) -> i64
-    requires { ⌜ ElementGiven (now sheet) f m (now x) ⌝ }
-    ensures { λ r. ⌜ r ≡ undoneAt rule (now (sheet .entry)) f (now (x .entry)) m ⌝ }
+// What element m was, by the rounded sum q of its row.
+pub fn undone_at(sheet: &[i32], f: Layout, m: usize, x: &[i32; 16], q: i64) -> i64
+    requires { ⌜ ElementGiven (now sheet) f m (now x) × Within mostRounded q ⌝ }
+    ensures { λ r. ⌜ r ≡ at (now (sheet .entry)) (f .signs + m) *ℤ (at (now (x .entry)) m -ℤ q) ⌝ }
 {
     let signs = f.signs;
-    undone(sheet[signs + m], x[m], rounded_sum_at(rule, sheet, f, m, x))
-}
-
-// A factor with weights, undone in place. It stops at the first number beyond the bound: later sums could leave 64 bits.
-pub fn undo_weights(rule: Rule, sheet: &[i32], f: Layout, y: [i32; 16]) -> Passed
-    requires { ⌜ InSheet (now sheet) f × (f .row < f .order) × Bounded bound y ⌝ }
-    ensures { λ r. ⌜ Step bound (f .order) (undoneInPlace rule (now (sheet .entry)) f (f .order) y) (r .outcome .ok)
-        (r .block) ⌝ }
-{
-    let n = f.order;
-    let mut x = y;
-    for t in 0..n {
-        let m = nth_undone(f, t);
-        let z = undone_at(rule, sheet, f, m, &x);
-        if !is_within(z, Block::SAMPLE) {
-            return Passed {
-                block: y,
-                outcome: Outcome {
-                    ok: false,
-                    stage: 1,
-                },
-            };
-        }
-        x[m] = z as i32;
-    }
-    Passed {
-        block: x,
-        outcome: Outcome { ok: true, stage: 0 },
-    }
+    undone(sheet[signs + m], x[m], q)
 }
 
 // What the rounding of a row adds, unless all its entries are multiples of 4096.

@@ -116,13 +116,35 @@ module _ (back : Bool) (n1 n2 : ℕ) {p q : ℕ → ℕ} (hp : Permutes n1 p) (h
   in-column i j = omega arith
 
   -- what goes where, by row and column
-  to-is : (b : Bool) (e : ℕ) → toOf b source e ≡ toOf b p (e / n2) * n2 + toOf b q (e % n2)
+  pub to-is : (b : Bool) (e : ℕ) → toOf b source e ≡ toOf b p (e / n2) * n2 + toOf b q (e % n2)
   to-is true e = refl
   to-is false e = sym (NatL.div-add-mod' e n2)
 
-  from-is : (b : Bool) (e : ℕ) → fromOf b source e ≡ fromOf b p (e / n2) * n2 + fromOf b q (e % n2)
+  pub from-is : (b : Bool) (e : ℕ) → fromOf b source e ≡ fromOf b p (e / n2) * n2 + fromOf b q (e % n2)
   from-is true e = sym (NatL.div-add-mod' e n2)
   from-is false e = refl
+
+  -- every number of the block went its way, and no other place changed
+  pub all-went : (x : List ℤ) {y : List ℤ} → length y ≡ length x → n1 * n2 ≤ length x →
+      ((e : ℕ) → e < n1 * n2 → at y (toOf back source e) ≡ at x (fromOf back source e)) →
+      ((k : ℕ) → n1 * n2 ≤ k → at y k ≡ at x k) →
+      y ≡ movedBy back (n1 * n2) (λ e. p (e / n2) * n2 + q (e % n2)) x
+  all-went x {y} long room went other =
+      same-list (n1 * n2) y _ (long ∙ sym (length-scattered (n1 * n2) _ _ x)) below
+      (λ k l. other k l ∙ sym (scattered-other (n1 * n2) _ _ x k (λ m b e. omega (arith, t .below m b))))
+      ∙ sym (moved-scattered back (n1 * n2) source x)
+    where
+      t : Permutes (n1 * n2) (toOf back source)
+      t = to-permutes back (pair-permutes n1 n2 hp hq)
+
+      taken : ℕ → ℤ
+      taken m = at x (fromOf back source m)
+
+      below : (k : ℕ) → k < n1 * n2 → at y k ≡ at (scattered (n1 * n2) (toOf back source) taken x) k
+      below k l =
+          let b = t .from-below k l in
+          rw (t .to-from k l) at (went _ b
+          ∙ sym (scattered-at (n1 * n2) (toOf back source) taken x (λ m d. omega (arith, t .below m d)) (apart t) _ b))
 
   module _ {x z y : List ℤ} (room : n1 * n2 ≤ length x)
       (r : MovedLines n1 n2 n2 1 (toOf back q) (fromOf back q) x z)
@@ -139,23 +161,7 @@ module _ (back : Bool) (n1 n2 : ℕ) {p q : ℕ → ℕ} (hp : Permutes n1 p) (h
 
     pub pair-moved : y ≡ movedBy back (n1 * n2) (λ e. p (e / n2) * n2 + q (e % n2)) x
     pair-moved =
-        same-list (n1 * n2) y _
-        (c .long ∙ r .long ∙ sym (length-scattered (n1 * n2) _ _ x))
-        below
+        all-went x (c .long ∙ r .long) room went
         (λ k l.
         c .other k (λ i m a b e. omega (arith, rows n1 n2 (n1 * n2) (omega arith) .inside m i b a))
-        ∙ r .other k (λ i m a b e. omega (arith, rows n1 n2 (n1 * n2) (omega arith) .inside i m a b))
-        ∙ sym (scattered-other (n1 * n2) _ _ x k (λ m b e. omega (arith, t .below m b))))
-        ∙ sym (moved-scattered back (n1 * n2) source x)
-      where
-        t : Permutes (n1 * n2) (toOf back source)
-        t = to-permutes back (pair-permutes n1 n2 hp hq)
-
-        taken : ℕ → ℤ
-        taken m = at x (fromOf back source m)
-
-        below : (k : ℕ) → k < n1 * n2 → at y k ≡ at (scattered (n1 * n2) (toOf back source) taken x) k
-        below k l =
-            let b = t .from-below k l in
-            rw (t .to-from k l) at (went _ b
-            ∙ sym (scattered-at (n1 * n2) (toOf back source) taken x (λ m d. omega (arith, t .below m d)) (apart t) _ b))
+        ∙ r .other k (λ i m a b e. omega (arith, rows n1 n2 (n1 * n2) (omega arith) .inside i m a b)))

@@ -9,6 +9,7 @@ use native.Mathlib.Decide.{decLt}
 use native.Mathlib.Nat as NatL
 use native.Mathlib.Omega.{arith}
 use lib.IntN.{ℤ}
+use Rattle.rules.specs.declared.Rule.{Rule}
 use Rattle.rules.specs.Numbers.{at}
 use Rattle.rules.specs.Shapes.{order}
 use Rattle.rules.specs.Laws.GoodStages.{Permutes, same-permutes}
@@ -22,7 +23,7 @@ use Rattle.factor.specs.Layouts.{rowOf}
 use Rattle.factor.specs.UndoingOrder.{nthUndone, undoing-permutes, undoing-reversed, Unseen, row-blind}
 use Rattle.factor.specs.InPlace.{inPlace, in-place-other}
 use Rattle.joint.specs.Sums.{SameRows}
-use Rattle.joint.specs.RowsInPlace.{rowOrder, elementBy}
+use Rattle.joint.specs.RowsInPlace.{rowOrder, elementOf}
 
 abbrev pub nthUndonePair : Layout → Layout → ℕ → ℕ
 nthUndonePair f g t =
@@ -89,8 +90,11 @@ unfoldable pub pairOrder : Task → Layout → Layout → ℕ → ℕ
 pairOrder task f g t = rowOrder task g (nthRow task f (t / g .order)) (t % g .order)
 
 -- all elements in turn
+abbrev pub weightsOf : Task → Rule → List ℤ → Layout → List ℤ → Layout → List ℤ → List ℤ
+weightsOf task rule c fa r fb x = inPlace (elementOf task rule c fa r fb x) (pairOrder task fa fb) (fa .order * fb .order) x
+
 abbrev pub weightsBy : Run → List ℤ → Layout → List ℤ → Layout → List ℤ → List ℤ
-weightsBy run c fa r fb x = inPlace (elementBy run c fa r fb x) (pairOrder (run .task) fa fb) (fa .order * fb .order) x
+weightsBy run c fa r fb x = weightsOf (run .task) (run .rule) c fa r fb x
 
 pub pair-order-row : (task : Task) (f g : Layout) (s u : ℕ) → u < g .order →
     pairOrder task f g (s * g .order + u) ≡ rowOrder task g (nthRow task f s) u

@@ -9,7 +9,7 @@ ghost use Rattle.rectangle.specs.Runs.{Matched, jointRunBy};
 use crate::stages::run_stage;
 use factor::run::Outcome;
 use factor::run::Run;
-use factor::run::nth_stage;
+use factor::run::nth_start;
 use sheet::factors::count_at;
 
 // First to last, or, for an inverse run, last to first: the block after the last stage, or the stage that is refused.
@@ -31,9 +31,8 @@ pub fn run_stages(
     let n2 = count_at(row, 0);
     let many = count_at(col, 1);
     for t in 0..many {
-        let f = nth_stage(task, many, t);
-        let i = columns[f] as usize;
-        let j = rows[f] as usize;
+        let i = nth_start(task, col, columns, t);
+        let j = nth_start(task, row, rows, t);
         let r = run_stage(run, col, row, n1, n2, i, j, x);
         if !r.ok {
             return Outcome {

@@ -1,13 +1,9 @@
 // A pair of factors with weights: applied, undone and on allowances, row by row, in place. A step stops at the first number
 // beyond the bound, and the block is not looked at again then: later sums could leave 64 bits.
 ghost use mathlib.Core.Path.{_≡_};
-ghost use Prim.Native.Nat.{_*_, _<_};
-ghost use lib.ListN.{length};
-ghost use Rattle.factor.specs.SumBounds.{Bounded};
-ghost use Rattle.factor.specs.LayoutInSheet.{InSheet};
-ghost use Rattle.factor.specs.Tasks.{limitOf};
-ghost use Rattle.factor.specs.Steps.{Step};
-ghost use Rattle.rectangle.specs.UndoingOrder.{nthRow, weightsBy};
+ghost use Prim.Native.Nat.{_<_};
+ghost use Rattle.rectangle.specs.UndoingOrder.{nthRow};
+ghost use Rattle.rectangle.specs.RowsInTurn.{Weighable, Weighed};
 use factor::Layout;
 use factor::nth_undone;
 use factor::run::Outcome;
@@ -32,6 +28,7 @@ fn nth_row(task: Task, fa: Layout, s: usize) -> usize
     nth_undone(fa, n - 1 - s)
 }
 
+// All rows applied, each in its turn. Each task has a loop of its own: one that asks for the task in every turn is slower.
 fn apply_rows(
     rule: Rule,
     col: &[i32],
@@ -39,7 +36,11 @@ fn apply_rows(
     row: &[i32],
     fb: Layout,
     x: &mut [i32; 256],
-) -> Outcome {
+) -> Outcome
+    requires { ⌜ Weighable Task.Forward (now col) fa (now row) fb (now x) ⌝ }
+    ensures { λ r. ⌜ Weighed Task.Forward rule (now (col .entry)) fa (now (row .entry)) fb (now (x .entry))
+        (r .ok) (now (x .exit)) ⌝ }
+{
     let n = fa.order;
     for s in 0..n {
         let i = nth_row(Task::Forward, fa, s);
@@ -51,6 +52,7 @@ fn apply_rows(
     Outcome { ok: true, stage: 0 }
 }
 
+// All rows undone.
 fn undo_rows(
     rule: Rule,
     col: &[i32],
@@ -58,7 +60,11 @@ fn undo_rows(
     row: &[i32],
     fb: Layout,
     x: &mut [i32; 256],
-) -> Outcome {
+) -> Outcome
+    requires { ⌜ Weighable Task.Inverse (now col) fa (now row) fb (now x) ⌝ }
+    ensures { λ r. ⌜ Weighed Task.Inverse rule (now (col .entry)) fa (now (row .entry)) fb (now (x .entry))
+        (r .ok) (now (x .exit)) ⌝ }
+{
     let n = fa.order;
     for s in 0..n {
         let i = nth_row(Task::Inverse, fa, s);
@@ -70,6 +76,7 @@ fn undo_rows(
     Outcome { ok: true, stage: 0 }
 }
 
+// The allowances of all rows.
 fn allow_rows(
     rule: Rule,
     col: &[i32],
@@ -77,7 +84,11 @@ fn allow_rows(
     row: &[i32],
     fb: Layout,
     x: &mut [i32; 256],
-) -> Outcome {
+) -> Outcome
+    requires { ⌜ Weighable Task.Allowance (now col) fa (now row) fb (now x) ⌝ }
+    ensures { λ r. ⌜ Weighed Task.Allowance rule (now (col .entry)) fa (now (row .entry)) fb (now (x .entry))
+        (r .ok) (now (x .exit)) ⌝ }
+{
     let n = fa.order;
     for s in 0..n {
         let i = nth_row(Task::Allowance, fa, s);
@@ -89,6 +100,7 @@ fn allow_rows(
     Outcome { ok: true, stage: 0 }
 }
 
+// All rows, by the task.
 pub fn run_weights(
     run: Run,
     col: &[i32],
@@ -96,7 +108,11 @@ pub fn run_weights(
     row: &[i32],
     fb: Layout,
     x: &mut [i32; 256],
-) -> Outcome {
+) -> Outcome
+    requires { ⌜ Weighable (run .task) (now col) fa (now row) fb (now x) ⌝ }
+    ensures { λ r. ⌜ Weighed (run .task) (run .rule) (now (col .entry)) fa (now (row .entry)) fb (now (x .entry))
+        (r .ok) (now (x .exit)) ⌝ }
+{
     let task = run.task;
     let rule = run.rule;
     match task {

@@ -1,2 +1,3 @@
 pub mod Starts
+pub mod Quick
 pub mod Promises

@@ -8,6 +8,7 @@ use rules::Mark;
 
 pub mod factors; // numbers that count something, and where factors stand: for callers that hold a checked sheet
 mod faults; // 2 to 8: the fault of one number
+mod quick; // whether numbers in a row have no fault at all
 mod readers; // from the left to the first fault: 1 to 9
 mod matches; // two checked sheets, kind for kind: 12
 

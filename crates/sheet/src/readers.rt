@@ -1,4 +1,5 @@
-// The readers: each starts at a place and ends at the next one, or at the first fault (1 to 9) and its place.
+// The readers: each starts at a place and ends at the next one, or at the first fault (1 to 9) and its place. Numbers in a row
+// are tested together first; if any of them has a fault, they are read one by one.
 ghost use mathlib.Core.Path.{_≡_};
 ghost use Prim.Native.Nat.{_≤_, _-_};
 ghost use Rattle.rules.specs.Numbers.{mostOrder};
@@ -7,6 +8,8 @@ use crate::factors::count_at;
 use crate::factors::kind_at;
 use crate::factors::triangle_of;
 use crate::faults::fault_of;
+use crate::quick::are_places;
+use crate::quick::are_weights;
 use rules::Item;
 use rules::Kind;
 use rules::Mark;
@@ -54,10 +57,32 @@ fn read_many(sheet: &[i32], what: Item, m: usize, start: usize) -> Mark
     }
 }
 
+// The n places of a permutation.
+fn read_places(sheet: &[i32], n: usize, i: usize) -> Mark
+    requires { ⌜ n ≤ mostOrder ⌝ }
+    ensures { λ r. ⌜ r ≡ times n (one (now (sheet .entry)) (Item.Place n i)) i ⌝ }
+{
+    if are_places(sheet, n, i) {
+        let next = i + n;
+        return Mark {
+            number: 0,
+            place: next,
+        };
+    }
+    read_many(sheet, Item::Place(n, i), n, i)
+}
+
 // n signs, then m entries.
 fn read_weights(sheet: &[i32], n: usize, m: usize, i: usize) -> Mark
     ensures { λ r. ⌜ r ≡ weights (now (sheet .entry)) n m i ⌝ }
 {
+    if are_weights(sheet, n, m, i) {
+        let next = i + (n + m);
+        return Mark {
+            number: 0,
+            place: next,
+        };
+    }
     let r = read_many(sheet, Item::Sign, n, i);
     if r.number != 0 {
         return r;
@@ -83,7 +108,7 @@ fn read_body(sheet: &[i32], n: usize, kind: Kind, i: usize) -> Mark
     ensures { λ r. ⌜ r ≡ body (now (sheet .entry)) n kind i ⌝ }
 {
     match kind {
-        Kind::Permutation => return read_many(sheet, Item::Place(n, i), n, i),
+        Kind::Permutation => return read_places(sheet, n, i),
         Kind::Lower => return read_weights(sheet, n, triangle_of(n), i),
         Kind::Upper => return read_weights(sheet, n, triangle_of(n), i),
         Kind::Single => return read_single(sheet, n, i),

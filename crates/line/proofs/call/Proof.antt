@@ -48,14 +48,17 @@ returns-2 c =
     lengths-refuse (s .args .run) (line (s .args .s .now)) (s .args .x .now) (s .args .y .now) (s .pre) (checks e) (e .if1 .left)
     (told l) (c .if2 .taken)
 
+starts-of-requires : tie.Need-starts-of-requires
+starts-of-requires c κs = fine (c .before .before .before .before)
+
 run-block-requires : tie.Need-run-block-requires
 unfolding line
 run-block-requires c κs =
-    let d = c .before in
+    let d = c .before .before .before in
     let l = d .before .before in
     let e = l .before .before in
     let h = lengths-fine _ _ _ _ (ap (λ (a : Answer). a .number) (sym (told l)) ∙ d .if2 .left) in
-    (fine e, h .0, h .1)
+    (fine e, c .before .before .starts-of .ensures, h .0, h .1)
 
 same-length : tie.Need-same-length
 same-length c = search needs
@@ -63,7 +66,7 @@ same-length c = search needs
 returns-3 : tie.Need-returns-3
 unfolding line
 returns-3 c =
-    let d = c .before .before .before in
+    let d = c .before .before .before .before .before in
     let l = d .before .before in
     let e = l .before .before in
     let s = e .before .before .before in
@@ -74,4 +77,5 @@ returns-3 c =
 pub call-spec : {M : Type 1} → statement M
 call-spec =
     tie.close
-    (tie.spec check-requires returns count-at-requires check-lengths-requires returns-2 run-block-requires same-length returns-3)
+    (tie.spec check-requires returns count-at-requires check-lengths-requires returns-2 starts-of-requires
+    run-block-requires same-length returns-3)

@@ -61,14 +61,20 @@ returns-2 c =
     lengths-refuse (s .args .run) (P s) (s .args .x .now) (s .args .y .now) (s .pre) (checks p) (e .if1 .left) (told l)
     (c .if2 .taken)
 
+starts-of-requires : tie.Need-starts-of-requires
+starts-of-requires c κs = fine (c .before .before .before .before .before) .column
+
+starts-of-requires-2 : tie.Need-starts-of-requires-2
+starts-of-requires-2 c κs = fine (c .before .before .before .before .before .before .before) .row
+
 run-block-requires : tie.Need-run-block-requires
 unfolding joint
 run-block-requires c κs =
-    let d = c .before in
+    let d = c .before .before .before .before .before in
     let l = d .before .before in
     let e = l .before .before .before in
     let h = lengths-fine _ _ _ _ (ap (λ (a : Answer). a .number) (sym (told l)) ∙ d .if2 .left) in
-    (fine e, h .0, h .1)
+    (fine e, c .before .before .before .before .starts-of .ensures, c .before .before .starts-of2 .ensures, h .0, h .1)
 
 same-length : tie.Need-same-length
 same-length c = search needs
@@ -76,7 +82,7 @@ same-length c = search needs
 returns-3 : tie.Need-returns-3
 unfolding joint
 returns-3 c =
-    let d = c .before .before .before in
+    let d = c .before .before .before .before .before .before .before in
     let l = d .before .before in
     let e = l .before .before .before in
     let p = e .before .before in
@@ -89,4 +95,4 @@ pub call-spec : {M : Type 1} → statement M
 call-spec =
     tie.close
     (tie.spec check-pair-requires returns count-at-requires count-at-requires-2 mul-check-lengths check-lengths-requires
-    returns-2 run-block-requires same-length returns-3)
+    returns-2 starts-of-requires starts-of-requires-2 run-block-requires same-length returns-3)

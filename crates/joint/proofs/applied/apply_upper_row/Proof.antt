@@ -1,38 +1,59 @@
+-- The runs' elements are the row's, from the sums of the block before it (`applied-row`).
 use borrow.Author.Needs.{needs}
+use mathlib.Core.Path.{_≡_, _∙_}
+use Prim.Native.Nat.{_+_, _-_, _*_, _≤_}
+use native.Mathlib.Omega.{arith}
+use mir.Syntax.{w32}
+use mir.Val.{toZ, ofZ}
+use Rattle.whole.specs.Machine.{back}
+use Rattle.joint.specs.Elements.{signAt, sums-small}
+use Rattle.joint.specs.RowsInPlace.{in-block}
+use Rattle.joint.specs.Triangles.{applied-row}
 use Rattle.joint.proofs.applied.apply_upper_row.Statement.{statement}
 use Rattle.joint.proofs.applied.apply_upper_row.Tie as tie
-use Rattle.joint.proofs.applied.apply_upper_row.Reads as reads
-use Rattle.joint.proofs.applied.apply_upper_row.Lts as lts
-use Rattle.joint.proofs.applied.apply_upper_elements.Reads as apply-upper-elements-reads
-use Rattle.joint.proofs.elements.sign_at.Reads as sign-at-reads
-use Rattle.joint.proofs.elements.sums_at.Reads as sums-at-reads
 
--- src/applied.rt:212:5
 sums-at-requires : tie.Need-sums-at-requires
 sums-at-requires c κs = search needs
 
--- src/applied.rt:213:41
 sign-at-requires : tie.Need-sign-at-requires
 sign-at-requires c κs = search needs
 
--- src/applied.rt:213:66
+-- the row lies in the block
+room : (s : tie.Start) → s .args .i * s .args .fb .order + s .args .fb .order ≤ 256
+room s =
+    let n = s .pre .4 in
+    let h = in-block (s .args .fb .order - 1) (s .pre .0 .order) (s .pre .1 .order) (s .pre .2) (omega arith) in
+    omega arith
+
 mul-apply-upper-elements : tie.Need-mul-apply-upper-elements
-mul-apply-upper-elements c = ?
+mul-apply-upper-elements c = let h = room (c .before .before .before .before .before) in omega arith
 
--- src/applied.rt:213:5
+sign : (c : tie.After-sign-at) →
+    let s = c .before .before .before .before in
+    toZ w32 (ofZ w32 (c .sign-at .result)) ≡ signAt (s .args .col .now) (s .args .fa) (s .args .i)
+sign c = back w32 _ (c .sign-at .ok) ∙ c .sign-at .ensures
+
 apply-upper-elements-requires : tie.Need-apply-upper-elements-requires
-apply-upper-elements-requires c κs = ?
+apply-upper-elements-requires c κs =
+    let s = c .before .before .before .before .before .before in
+    rw (sign (c .before .before), c .before .before .before .sums-at .ensures) (
+      (
+        s .pre .1,
+        s .pre .0 .sign (s .args .i) (s .pre .2),
+        sums-small (s .pre .0) (s .args .i) (s .pre .2) (s .args .fb .order) (s .pre .3),
+        room s,
+        s .pre .3,
+        s .pre .4,
+      ),
+      s .pre .5,
+    )
 
--- src/applied.rt:197:1
 returns : tie.Need-returns
-returns c = ?
+returns c =
+    let s = c .before .before .before .before .before .before .before in
+    applied-row (s .args .rule) (s .args .col .now) (s .args .fa) (s .args .row .now) (s .args .fb) (s .args .i) (s .args .x .now)
+    (rw (sign (c .before .before .before), c .before .before .before .before .sums-at .ensures) at (c .apply-upper-elements .ensures))
 
 pub apply-upper-row-spec : {M : Type 1} → statement M
 apply-upper-row-spec =
-    tie.close
-    (tie.spec
-    sums-at-requires
-    sign-at-requires
-    mul-apply-upper-elements
-    apply-upper-elements-requires
-    returns)
+    tie.close (tie.spec sums-at-requires sign-at-requires mul-apply-upper-elements apply-upper-elements-requires returns)

@@ -54,7 +54,7 @@ entries : (c : tie.After-wide-sum) →
 entries c =
     let s = c .before in
     back w64 _ (c .wide-sum .ok) ∙ c .wide-sum .ensures
-    ∙ rw (s .pre .3, many s) (upper-entries (s .args .f) (s .args .j) (s .pre .1) (s .args .row .now) (s .args .v .now))
+    ∙ upper-entries (s .args .f) (s .args .j) (s .pre .1) (s .pre .3) (many s) (s .args .row .now) (s .args .v .now)
 
 small : (c : tie.After-wide-sum) → Within mostJoint (toZ w64 (ofZ w64 (c .wide-sum .result)))
 small c =

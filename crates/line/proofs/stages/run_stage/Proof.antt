@@ -63,12 +63,13 @@ enum-told : tie.Need-enum-told
 enum-told c = search needs
 
 apply-weights-requires : tie.Need-apply-weights-requires
-unfolding limitOf
+unfolding limitOf layoutAt layoutBy
 apply-weights-requires c κs =
     let e = c .before .before in
     let s = e .before .before .before in
     rw (e .before .before .layout-at .ensures) (
       in-sheet (s .pre .1) (s .pre .2) (no-kind e),
+      no-kind e,
       rw (c .enum-told .given .1) at
           (s .pre .3),
     )
@@ -93,6 +94,7 @@ undo-weights-requires c κs =
     let s = e .before .before .before in
     rw (e .before .before .layout-at .ensures) (
       in-sheet (s .pre .1) (s .pre .2) (no-kind e),
+      no-kind e,
       row-inside (s .pre .0) (s .pre .2),
       rw (c .enum-told2 .given .1) at
           (s .pre .3),

@@ -24,13 +24,13 @@ returns c =
     let i = c .before .before in
     let s = i .before in
     let out = sym (i .is-inside .ensures) ∙ not-true _ (c .before .if1 .taken) in
-    run-out _ _ (s .args .x .now) _ out (c .refused .ensures) (s .args .run) (s .pre .1)
+    run-out _ _ (s .args .x .now) _ out (c .refused .ensures) (s .args .run) (s .pre .3)
 
 -- the lent numbers fit into the array
 few : (s : tie.Start) → length (s .args .x .now) ≤ 256
 few s =
     let m = size-most (s .pre .0) in
-    omega (arith, s .pre .1, inputs-most (s .args .run .task) (sizeOf (s .args .col .now) (s .args .row .now)))
+    omega (arith, s .pre .3, inputs-most (s .args .run .task) (sizeOf (s .args .col .now) (s .args .row .now)))
 
 slice-aggregate-copy-front : tie.Need-slice-aggregate-copy-front
 slice-aggregate-copy-front c = search needs
@@ -49,6 +49,8 @@ run-stages-requires c κs =
     let s = e .before .before in
     let in-bound = sym (e .before .is-inside .ensures) ∙ not-false _ (e .if1 .left) in (
       s .pre .0,
+      s .pre .1,
+      s .pre .2,
       rw (loaded a) (start-bounded 256 (s .args .run .task) (s .args .x .now) in-bound),
       ap length (a .copy-front .ensures) ∙ length-fill _ _ _,
     )
@@ -61,7 +63,7 @@ finish-requires c κs =
     let a = c .before .before in
     let s = a .before .before .before .before .before .before .before in
     let m = size-most (s .pre .0) in
-    omega (arith, s .pre .2, a .run-stages .ensures .1)
+    omega (arith, s .pre .4, a .run-stages .ensures .1)
 
 same-length : tie.Need-same-length
 same-length c = search needs
@@ -74,7 +76,7 @@ returns-2 c =
     let x = s .args .x .now in
     let y = s .args .y .now in
     let ended = rw (loaded (a .before .before .before)) at (a .run-stages .ensures .0) in
-    rw (← (run-ends 256 (stages-good (s .pre .0)) x y (s .pre .2) (s .args .run) (s .pre .1) (size-most (s .pre .0))))
+    rw (← (run-ends 256 (stages-good (s .pre .0)) x y (s .pre .4) (s .args .run) (s .pre .3) (size-most (s .pre .0))))
     (rw (run-ended-reply _ ended (paddedBlock 256 x) (numberOf (s .args .run .task)) y) at (f .finish .ensures))
 
 pub run-block-spec : {M : Type 1} → statement M

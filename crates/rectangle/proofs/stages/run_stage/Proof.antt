@@ -67,14 +67,14 @@ run-weights-requires c κs =
     let s = e .before .before .before .before in
     let p = s .pre .0 in
     let q = no-kind e in
-    rw (e .before .before .before .layout-at .ensures, e .before .before .layout-at2 .ensures) (
-      in-sheet (p .most1) (p .column) q,
-      in-sheet (p .most2) (p .row) (λ z. q (p .match ∙ z)),
-      row-inside (p .some1) (p .column),
-      row-inside (p .some2) (p .row),
-      s .pre .1,
-      s .pre .2,
-    )
+    rw (e .before .before .before .layout-at .ensures, e .before .before .layout-at2 .ensures) (record {
+      column = in-sheet (p .most1) (p .column) q;
+      row = in-sheet (p .most2) (p .row) (λ z. q (p .match ∙ z));
+      low1 = row-inside (p .some1) (p .column);
+      low2 = row-inside (p .some2) (p .row);
+      small = s .pre .1;
+      long = s .pre .2;
+    })
 
 returns-2 : tie.Need-returns-2
 unfolding layoutAt layoutBy

@@ -1,0 +1,129 @@
+// What line.c and rectangle.c share: a sheet checked and decoded in one pass into a table of steps; rounding; the bound. What
+// takes an order is compiled into its caller: where that gives a literal, loops have fixed lengths and numbers fixed places.
+#ifndef TWIN_H
+#define TWIN_H
+#include "bench.h"
+
+#define INLINE static inline __attribute__((always_inline))
+
+INLINE struct answer refused(uint32_t number, uint32_t side, uint64_t place) { return (struct answer){number, side, place}; }
+
+// ---- runs of numbers: a test that ends at the first fault is slower where there is none
+
+INLINE bool are_within(const int32_t *a, size_t n, uint32_t most)
+{
+	uint32_t bad = 0;
+	for (size_t k = 0; k < n; k++)
+		bad |= (uint32_t)a[k] + most > 2 * most;
+	return !bad;
+}
+
+INLINE bool are_signs(const int32_t *d, size_t n)
+{
+	uint32_t bad = 0;
+	for (size_t k = 0; k < n; k++)
+		bad |= ((uint32_t)d[k] + 1) & ~2u; // 0 of -1 and of 1
+	return !bad;
+}
+
+INLINE bool are_places(const int32_t *p, size_t n)
+{
+	uint32_t bad = 0, used = 0;
+	for (size_t k = 0; k < n; k++) {
+		bad |= (uint32_t)p[k] >= n;
+		used |= 1u << ((uint32_t)p[k] & 31);
+	}
+	return !bad && used == (1u << n) - 1;
+}
+
+// ---- the table of steps
+
+struct step {
+	uint32_t kind, row;
+	const int32_t *signs, *entries; // where they stand in the sheet; for a permutation, its places
+};
+
+// The factor at s[i], if it has no fault: where the next one starts. 0 if it has one.
+INLINE size_t decode_factor(const int32_t *s, size_t len, size_t i, size_t n, struct step *t)
+{
+	if (i >= len)
+		return 0;
+	uint32_t kind = (uint32_t)s[i++], row = 0;
+	if (kind == 1) {
+		*t = (struct step){kind, row, s + i, s + i};
+		return len - i >= n && are_places(s + i, n) ? i + n : 0;
+	}
+	size_t entries = n * (n - 1) / 2;
+	if (kind == 4) {
+		if (i >= len)
+			return 0;
+		row = (uint32_t)s[i++];
+		entries = n - 1;
+	}
+	if (kind - 2 > 2 || row >= n || len - i < n + entries)
+		return 0;
+	*t = (struct step){kind, row, s + i, s + i + n};
+	return are_signs(t->signs, n) && are_within(t->entries, entries, ENTRY) ? i + n + entries : 0;
+}
+
+// The order, if the sheet begins with an order and a count. 0 if it does not.
+INLINE size_t order_of(const int32_t *s, size_t len)
+{
+	bool ok = len >= 2 && (uint32_t)s[0] - 1 < ORDER && (uint32_t)s[1] - 1 < COUNT;
+	return ok ? (size_t)s[0] : 0;
+}
+
+// Whether a sheet of order n is accepted; its steps. Which fault it has, if any, twin_check tells: that may take its time.
+INLINE bool decode(const int32_t *s, size_t len, size_t n, struct step t[COUNT])
+{
+	size_t i = 2;
+	for (int32_t f = 0; f < s[1]; f++) {
+		i = decode_factor(s, len, i, n, &t[f]);
+		if (!i)
+			return false;
+	}
+	return i == len;
+}
+
+struct answer twin_check(const int32_t *s, size_t len, uint32_t side); // 1 to 9, from the left, the first fault
+
+// 10, of a block of n numbers and of a strip of such blocks.
+INLINE struct answer lengths(size_t n, bool strip, size_t xn, size_t yn, size_t bn)
+{
+	if (strip ? xn % n : xn != n)
+		return refused(10, 0, 0);
+	return yn != xn || (strip && bn != xn / n) ? refused(10, 1, 0) : refused(0, 0, 0);
+}
+
+// ---- a stage
+
+// Halves upward: R of a line's sum, R2 of a rectangle's. An own term is a multiple of 4096, or of 16777216, so it may as well
+// stand inside the rounding.
+INLINE int64_t R(int64_t s) { return (s + 2048) >> 12; }
+INLINE int64_t R2(int64_t s) { return (s + 8388608) >> 24; }
+
+INLINE uint32_t is_beyond(int64_t z) { return (uint64_t)z + SAMPLE > 2 * SAMPLE; }
+
+// Whether it is beyond the bound: a stage collects this and tests it once.
+INLINE uint32_t put(int32_t *x, int64_t z)
+{
+	*x = (int32_t)z;
+	return is_beyond(z);
+}
+
+// A number by a sign, and no product to wait for.
+INLINE int64_t flip(int32_t sign, int64_t w)
+{
+	int64_t s = (int64_t)sign >> 63; // 0 or -1
+	return (w ^ s) - s;
+}
+
+INLINE int64_t sum_of(const int32_t *a, const int32_t *x, size_t n)
+{
+	int64_t sum = 0;
+	for (size_t k = 0; k < n; k++)
+		sum += (int64_t)a[k] * x[k];
+	return sum;
+}
+
+#endif
