@@ -2,7 +2,7 @@
 use mathlib.Core.List.{List}
 use mathlib.Core.Logic.{_≢_}
 use mathlib.Core.Path.{_≡_, refl, sym, ap, ap₂, _∙_}
-use Prim.Native.Nat.{ℕ, suc, _+_, _-_, _*_, _≤_, _<_}
+use Prim.Native.Nat.{ℕ, suc, _+_, _*_, _≤_, _<_}
 use native.Mathlib.Nat as NatL
 use native.Mathlib.Omega.{arith}
 use borrow.Author.Tests.{ne-eqb}
@@ -116,9 +116,11 @@ module _ {s x : List ℤ} {f : Layout} {j k : ℕ} (h : LineGiven s f j k x) whe
   pub beside-small : Within mostBeside (besideSum s f j k x)
   unfolding besideSum
   beside-small =
-      within-le (omega arith) (entries-small (band-at (h .sheet) j (h .column)) (λ l. at x (k + l)) (λ l. h .numbers .small (k + l)))
+      within-le (omega arith)
+      (entries-small (band-at (h .sheet) j (h .column)) (λ l. at x (k + l)) (λ l. h .numbers .small (k + l)))
 
-  pub beside-rounded-small : {d : ℤ} → Sign d → (rule : Rule) → Within (mostBeside + 2048) (R rule unit (d *ℤ besideSum s f j k x))
+  pub beside-rounded-small : {d : ℤ} → Sign d → (rule : Rule) →
+      Within (mostBeside + 2048) (R rule unit (d *ℤ besideSum s f j k x))
   beside-rounded-small g rule = rounded-within rule unit (within-sign g beside-small)
 
 -- ---- a sum of one scale rounds as that of two
@@ -188,7 +190,8 @@ module _ (c : List ℤ) (fa : Layout) (i : ℕ) (single : fa .kind ≡ Single) (
   unfolding roundedSum jointSum besideSum
   rounded-beside rule =
       ap (R rule unit²)
-      (ap₂ (λ (a b : ℤ). (a +ℤ (diagonalOf (signAt s fb j) *ℤ b)) -ℤ ((diagonalOf d *ℤ diagonalOf (signAt s fb j)) *ℤ at x (k + j)))
+      (ap₂ (λ (a b : ℤ). (a +ℤ (diagonalOf (signAt s fb j) *ℤ b))
+      -ℤ ((diagonalOf d *ℤ diagonalOf (signAt s fb j)) *ℤ at x (k + j)))
       (entries-scaled (diagonalOf d) (at (sumsAt c fa i x (fb .order))) (λ m. at x (k + m)) (h .row j l) own-sums)
       (own-sums j l)
       ∙ own-term d (entriesSum s (rowOf fb j) j (λ m. at x (k + m))) (diagonalOf (signAt s fb j)) (at x (k + j)))
@@ -230,8 +233,8 @@ module _ (c : List ℤ) (fa : Layout) (i : ℕ) (single : fa .kind ≡ Single) (
     undone-corner rule = undone-beside rule ∙ rw (no-rounding rule) (ap (_*ℤ_ (d *ℤ signAt s fb j)) (minus-zero (at x (k + j))))
 
 -- the element in column q
-pub applied-column : (rule : Rule) (c : List ℤ) (fa : Layout) (i : ℕ) → fa .kind ≡ Single → i ≢ fa .row → {s : List ℤ} {fb : Layout} →
-    InSheet s fb → (x : List ℤ) → fb .row < fb .order →
+pub applied-column : (rule : Rule) (c : List ℤ) (fa : Layout) (i : ℕ) → fa .kind ≡ Single → i ≢ fa .row →
+    {s : List ℤ} {fb : Layout} → InSheet s fb → (x : List ℤ) → fb .row < fb .order →
     appliedBeside rule s fb (signAt c fa i) (i * fb .order) x ≡ appliedOf rule c fa s fb x (i * fb .order + fb .row)
 unfolding appliedBeside
 applied-column rule c fa i e q {fb} h x l = sym (applied-beside c fa i e q h x (fb .row) l rule)

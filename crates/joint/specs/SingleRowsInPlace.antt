@@ -1,5 +1,5 @@
--- A ROW BESIDE THE ONE WITH ENTRIES, IN PLACE: turned, and its one sum put in, it is what the turns of the row leave, though the code
--- does not write it in the order of the turns.
+-- A ROW BESIDE THE ONE WITH ENTRIES, IN PLACE: turned, and its one sum put in, it is what the turns of the row leave, though the
+-- code does not write it in the order of the turns.
 use mathlib.Core.Bool.{true, false}
 use mathlib.Core.List.{List}
 use mathlib.Core.Logic.{_≢_}
@@ -17,7 +17,7 @@ use lib.Seq.{set-set}
 use Rattle.whole.specs.Diff.{Within}
 use Rattle.whole.specs.Laws.{Sign, signs-times}
 use Rattle.whole.specs.Machine.{within-sign}
-use Rattle.whole.specs.Sum.{sum, sum-cong}
+use Rattle.whole.specs.Sum.{sum-cong}
 use Rattle.rules.specs.declared.Kind.the-variants.{Single}
 use Rattle.rules.specs.declared.Rule.{Rule}
 use Rattle.rules.specs.Numbers.{unit, at}
@@ -26,7 +26,7 @@ use Rattle.rules.specs.Laws.GoodStages.{Permutes}
 use Rattle.rules.specs.Laws.Membership.{true-false}
 use Rattle.rules.specs.Laws.Lists.{set-at, set-other, same-list}
 use Rattle.factor.specs.declared.Layout.{Layout}
-use Rattle.factor.specs.Layouts.{row, rowOf}
+use Rattle.factor.specs.Layouts.{rowOf}
 use Rattle.factor.specs.LayoutInSheet.{InSheet}
 use Rattle.factor.specs.SumBounds.{Bounded}
 use Rattle.factor.specs.UndoingOrder.{nthUndone, undoing-permutes}
@@ -34,7 +34,8 @@ use Rattle.factor.specs.InPlace.{inPlace, length-in-place, in-place-other, apar
 use Rattle.joint.specs.Sums.{entriesSum}
 use Rattle.joint.specs.Elements.{signAt, appliedOf, undoneOf}
 use Rattle.joint.specs.RowsInPlace.{Stopped, RowDone, inRow, plain}
-use Rattle.joint.specs.SingleRows.{besideSum, appliedBeside, undoneBeside, Turned, applied-beside, undone-beside, applied-corner, undone-corner}
+use Rattle.joint.specs.SingleRows.{besideSum, appliedBeside, undoneBeside, Turned}
+use Rattle.joint.specs.SingleRows.{applied-beside, undone-beside, applied-corner, undone-corner}
 
 -- ---- how a row ends, by its outcome
 module _ {most m : ℕ} {step : List ℤ → ℕ → ℤ} {q : ℕ → ℕ} {x y : List ℤ} where
@@ -195,7 +196,8 @@ module _ (rule : Rule) (c : List ℤ) (fa : Layout) (i : ℕ) (single : fa .kind
           ∙ turns .other e (λ j l z. seen j l z (ℕ-discrete (order .from j) (n - 1)))
         where
           seen : (j : ℕ) → j < n → k + j ≡ e → Dec (order .from j ≡ n - 1) → ⊥
-          seen j l z (yes v) = w (sym z ∙ ap (λ (m : ℕ). k + m) (sym (order .to-from j l) ∙ ap (nthUndone (fb .kind) n q) v ∙ last))
+          seen j l z (yes v) =
+              w (sym z ∙ ap (λ (m : ℕ). k + m) (sym (order .to-from j l) ∙ ap (nthUndone (fb .kind) n q) v ∙ last))
           seen j l z (no v) =
               a (order .from j) (let b = order .from-below j l in omega arith) (ap (λ (m : ℕ). k + m) (order .to-from j l) ∙ z)
 
@@ -207,7 +209,8 @@ module _ (rule : Rule) (c : List ℤ) (fa : Layout) (i : ℕ) (single : fa .kind
       ∙ ap₂ (λ (a b : ℤ). (d *ℤ signAt s fb q) *ℤ (a -ℤ R rule unit (d *ℤ b)))
       (set-at t (k + q) _ (omega (arith, turns .long)))
       (ap₂ _+ℤ_
-      (sum-cong (rowOf fb q .left) _ _ (λ l b. let a = h .row q low .left in rw (set-other t (k + q) (k + l) (at x (k + q)) (λ z. omega arith))))
+      (sum-cong (rowOf fb q .left) _ _
+      (λ l b. let a = h .row q low .left in rw (set-other t (k + q) (k + l) (at x (k + q)) (λ z. omega arith))))
       (sum-cong (rowOf fb q .right) _ _ (λ l b. rw (set-other t (k + q) (k + (suc q + l)) (at x (k + q)) (λ z. omega arith)))))
 
   module _ {z : ℤ} (e : z ≡ undoneBeside rule s fb (signAt c fa i) (i * fb .order) (at x (i * fb .order + fb .row)) t) where

@@ -12,7 +12,7 @@ use Rattle.whole.specs.Machine.{fits, reads, back, sign-within, within-sign, wi
 use Rattle.rules.specs.Numbers.{unit, bound, at}
 use Rattle.rules.specs.Stages.{R}
 use Rattle.joint.specs.Elements.{signAt}
-use Rattle.joint.specs.SingleRows.{mostBeside, besideSum, appliedBeside, beside-rounded-small}
+use Rattle.joint.specs.SingleRows.{besideSum, appliedBeside, beside-rounded-small}
 use Rattle.joint.proofs.single.applied_beside.Statement.{statement}
 use Rattle.joint.proofs.single.applied_beside.Tie as tie
 
@@ -70,8 +70,9 @@ applied-requires c κs =
 returns : tie.Need-returns
 unfolding appliedBeside
 returns c =
+    let s = c .before .before .before .before .before in
     back w64 _ (c .applied .ok) ∙ c .applied .ensures
-    ∙ rw (rounded (c .before), signs (c .before .before .before), reads w32 (number (c .before .before .before .before .before)) tt)
+    ∙ rw (rounded (c .before), signs (c .before .before .before), reads w32 (number s) tt)
 
 pub applied-beside-spec : {M : Type 1} → statement M
 applied-beside-spec =

@@ -1,6 +1,6 @@
 -- The row is turned, and the one sum that it looks at was made before (`applied-row`).
 use borrow.Author.Tests.{not-true, not-false}
-use mathlib.Core.Path.{_≡_, refl, sym, _∙_}
+use mathlib.Core.Path.{_≡_, refl, _∙_}
 use Prim.Native.Nat.{_+_, _-_, _*_, _≤_, _<_}
 use native.Mathlib.Omega.{arith}
 use mir.Syntax.{w32, w64}
@@ -9,10 +9,10 @@ use Rattle.whole.specs.Diff.{Within}
 use Rattle.whole.specs.Laws.{Sign}
 use Rattle.whole.specs.Machine.{fits, reads, back}
 use Rattle.rules.specs.Numbers.{bound, at}
-use Rattle.factor.specs.SumBounds.{Bounded, bounded-set, test-no, test-yes}
+use Rattle.factor.specs.SumBounds.{bounded-set, test-no, test-yes}
 use Rattle.joint.specs.Elements.{signAt}
 use Rattle.joint.specs.RowsInPlace.{in-block}
-use Rattle.joint.specs.SingleRows.{LineGiven, appliedBeside, Turned, applied-column}
+use Rattle.joint.specs.SingleRows.{appliedBeside, Turned, applied-column}
 use Rattle.joint.specs.SingleRowsInPlace.{row-through, row-beyond, turned-small, applied-row}
 use Rattle.joint.proofs.single.apply_beside.Statement.{statement}
 use Rattle.joint.proofs.single.apply_beside.Tie as tie

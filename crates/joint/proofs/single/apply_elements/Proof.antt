@@ -66,7 +66,8 @@ element-copy-out-applied-whole c = room (c .before .before)
 -- its sum, its sign and its number
 total : (c : tie.After-crossing-total Inv-loop μ-loop) →
     let i = c .before in
-    toZ w64 (ofZ w64 (c .crossing-total .result)) ≡ totalOf (S i .args .row .now) (S i .args .f) (i .before .loop .j) (S i .args .v .now)
+    toZ w64 (ofZ w64 (c .crossing-total .result))
+    ≡ totalOf (S i .args .row .now) (S i .args .f) (i .before .loop .j) (S i .args .v .now)
 total c = back w64 _ (c .crossing-total .ok) ∙ c .crossing-total .ensures
 
 sign : (c : tie.After-sign-at Inv-loop μ-loop) →

@@ -1,21 +1,17 @@
 -- The weights of row q are as the sum asks (`band-at`).
 use mathlib.Core.Path.{_≡_, _∙_, ap}
 use native.Mathlib.Omega.{arith}
-use lib.IntN.{ℤ}
 use mir.Syntax.{w32, w64}
 use mir.Val.{toZ, ofZ}
-use Rattle.whole.specs.Machine.{fits, reads, back, within-le, within-+, within-pos}
-use Rattle.rules.specs.Numbers.{unit², at}
-use Rattle.factor.specs.Layouts.{rowOf}
-use Rattle.factor.specs.Rounding.{rounded-within}
-use Rattle.joint.specs.Sums.{across}
-use Rattle.joint.specs.Elements.{signAt, diagonalOf, roundedRest, diagonal-small, band-at, rest-element-small}
+use Rattle.whole.specs.Machine.{fits, reads, back, within-le}
+use Rattle.joint.specs.Elements.{signAt, diagonalOf, diagonal-small, band-at}
 use borrow.Author.Needs.{needs}
 use Rattle.joint.proofs.single.column_total.Statement.{statement}
 use Rattle.joint.proofs.single.column_total.Tie as tie
 
 row-of-requires : tie.Need-row-of-requires
-row-of-requires c κs = let h = c .pre .0 in let r = h .row (c .args .f .row) (c .pre .1) .room in (c .pre .1, h .order, omega arith)
+row-of-requires c κs =
+    let h = c .pre .0 in let r = h .row (c .args .f .row) (c .pre .1) .room in (c .pre .1, h .order, omega arith)
 
 sign-at-requires : tie.Need-sign-at-requires
 sign-at-requires c κs = search needs
@@ -25,9 +21,8 @@ sign : (c : tie.After-sign-at) →
     (c .before .before .args .f .row)
 sign c = back w32 _ (c .sign-at .ok) ∙ c .sign-at .ensures
 
-diagonal : (c : tie.After-diagonal-of) →
-    toZ w32 (ofZ w32 (c .diagonal-of .result)) ≡ diagonalOf
-    (signAt (c .before .before .before .args .row .now) (c .before .before .before .args .f) (c .before .before .before .args .f .row))
+diagonal : (c : tie.After-diagonal-of) → let s = c .before .before .before in
+    toZ w32 (ofZ w32 (c .diagonal-of .result)) ≡ diagonalOf (signAt (s .args .row .now) (s .args .f) (s .args .f .row))
 diagonal c = back w32 _ (c .diagonal-of .ok) ∙ c .diagonal-of .ensures ∙ ap diagonalOf (sign (c .before))
 
 diagonal-of-requires : tie.Need-diagonal-of-requires

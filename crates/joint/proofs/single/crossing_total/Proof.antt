@@ -44,7 +44,8 @@ returns-2 c =
     let s = c .before .before .before .before in
     back w64 _ (c .with-diagonal .ok) ∙ c .with-diagonal .ensures
     ∙ rw (sign (c .before .before), reads w64 (s .pre .0 .2 .small (s .args .j)) tt)
-    (total-beside (s .args .row .now) (s .args .f) (s .args .j) (s .args .v .now) (s .pre .1) (c .before .before .before .if1 .left))
+    (total-beside (s .args .row .now) (s .args .f) (s .args .j) (s .args .v .now) (s .pre .1)
+    (c .before .before .before .if1 .left))
 
 pub crossing-total-spec : {M : Type 1} → statement M
 crossing-total-spec =

@@ -78,5 +78,5 @@ returns c =
 pub narrow-sum-spec : {M : Type 1} → statement M
 narrow-sum-spec =
     tie.close
-    (tie.spec Inv-loop μ-loop loop-holds add-with-term mul-with-term shared-slice-copy-out-with-term add-with-term-2 mul-with-term-2
-    element-copy-out-with-term with-term-requires add-j loop-less loop-again returns)
+    (tie.spec Inv-loop μ-loop loop-holds add-with-term mul-with-term shared-slice-copy-out-with-term add-with-term-2
+    mul-with-term-2 element-copy-out-with-term with-term-requires add-j loop-less loop-again returns)

@@ -1,11 +1,12 @@
 -- The sum is small (`beside-small`), so it and its rounding fit 64 bits.
 use borrow.Author.Needs.{needs}
-use mathlib.Core.Path.{_≡_, _∙_}
+use mathlib.Core.Path.{_≡_, sym, ap₂, subst, _∙_}
 use lib.IntN.{_*ℤ_}
 use mir.Facts.{toZ-ofZ}
 use mir.Syntax.{w64}
-use mir.Val.{toZ, ofZ}
+use mir.Val.{SFits, toZ, ofZ}
 use Rattle.whole.specs.Diff.{Within}
+use Rattle.whole.specs.Laws.{Sign}
 use Rattle.whole.specs.Machine.{fits, back, within-+, within-pos, within-sign}
 use Rattle.rules.specs.Numbers.{unit}
 use Rattle.factor.specs.Rounding.{rounded-within}
@@ -28,12 +29,14 @@ small s = within-sign (s .pre .1) (beside-small (s .pre .0))
 turned-requires : tie.Need-turned-requires
 turned-requires c κs =
     let s = c .before in
-    rw (toZ-ofZ (s .fits .d), sum-is c) (s .pre .1, fits (small s) tt)
+    let e = toZ-ofZ (s .fits .d) in
+    (subst Sign (sym e) (s .pre .1), subst (SFits w64) (sym (ap₂ _*ℤ_ e (sum-is c))) (fits (small s) tt))
 
 value : (c : tie.After-turned) → let s = c .before .before in
     toZ w64 (ofZ w64 (c .turned .result))
     ≡ s .args .d *ℤ besideSum (s .args .row .now) (s .args .f) (s .args .j) (s .args .k) (s .args .x .now)
-value c = back w64 _ (c .turned .ok) ∙ c .turned .ensures ∙ rw (toZ-ofZ (c .before .before .fits .d), sum-is (c .before))
+value c =
+    back w64 _ (c .turned .ok) ∙ c .turned .ensures ∙ ap₂ _*ℤ_ (toZ-ofZ (c .before .before .fits .d)) (sum-is (c .before))
 
 round-line-requires : tie.Need-round-line-requires
 round-line-requires c κs =

@@ -1,6 +1,6 @@
 -- The row is turned, and the one sum is of the row as turned: what it looks at is recovered then (`undone-row`).
 use borrow.Author.Tests.{not-true, not-false}
-use mathlib.Core.Path.{_≡_, refl, sym, _∙_}
+use mathlib.Core.Path.{_≡_, refl, _∙_}
 use Prim.Native.Nat.{_+_, _-_, _*_, _≤_, _<_}
 use native.Mathlib.Omega.{arith}
 use mir.Syntax.{w32, w64}
@@ -12,7 +12,7 @@ use Rattle.rules.specs.Numbers.{bound, at}
 use Rattle.factor.specs.SumBounds.{Bounded, bounded-set, test-no, test-yes}
 use Rattle.joint.specs.Elements.{signAt}
 use Rattle.joint.specs.RowsInPlace.{in-block}
-use Rattle.joint.specs.SingleRows.{LineGiven, undoneBeside, Turned}
+use Rattle.joint.specs.SingleRows.{undoneBeside, Turned}
 use Rattle.joint.specs.SingleRowsInPlace.{row-through, row-beyond, turned-small, undone-row, undone-stops}
 use Rattle.joint.proofs.single.undo_beside.Statement.{statement}
 use Rattle.joint.proofs.single.undo_beside.Tie as tie
@@ -97,7 +97,8 @@ held : (c : tie.Else1) →
     let s = z .before .before .before .before .before .before in
     Within bound (undoneBeside (s .args .rule) (s .args .row .now) (s .args .fb)
     (signAt (s .args .col .now) (s .args .fa) (s .args .i)) (s .args .i * s .args .fb .order)
-    (at (s .args .x .now) (s .args .i * s .args .fb .order + s .args .fb .row)) (z .before .before .turn-row .last .1 .1 .1 .1 .0))
+    (at (s .args .x .now) (s .args .i * s .args .fb .order + s .args .fb .row))
+    (z .before .before .turn-row .last .1 .1 .1 .1 .0))
 held c = test-yes bound (value (c .before .before)) (c .before .is-within .ensures) (not-false _ (c .if1 .left))
 
 cast-x : tie.Need-cast-x

@@ -1,17 +1,15 @@
 -- The signs, the number and the rounded sum are small, and so is what is made of them.
 use mathlib.Core.Path.{_≡_, _∙_}
-use native.Mathlib.Omega.{arith}
 use lib.IntN.{_*ℤ_}
 use mir.Facts.{toZ-ofZ}
 use mir.Syntax.{w32, w64}
 use mir.Val.{toZ, ofZ}
-use Rattle.whole.specs.Diff.{Within}
 use Rattle.whole.specs.Laws.{Sign, signs-times}
-use Rattle.whole.specs.Machine.{fits, reads, back, sign-within, within-sign, within--}
-use Rattle.rules.specs.Numbers.{unit, at}
+use Rattle.whole.specs.Machine.{fits, back, sign-within, within-sign, within--}
+use Rattle.rules.specs.Numbers.{unit}
 use Rattle.rules.specs.Stages.{R}
 use Rattle.joint.specs.Elements.{signAt}
-use Rattle.joint.specs.SingleRows.{mostBeside, besideSum, undoneBeside, beside-rounded-small}
+use Rattle.joint.specs.SingleRows.{besideSum, undoneBeside, beside-rounded-small}
 use Rattle.joint.proofs.single.undone_beside.Statement.{statement}
 use Rattle.joint.proofs.single.undone_beside.Tie as tie
 
