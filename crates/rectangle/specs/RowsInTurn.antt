@@ -18,7 +18,7 @@ use Rattle.factor.specs.SumBounds.{Bounded}
 use Rattle.factor.specs.LayoutInSheet.{InSheet}
 use Rattle.factor.specs.Steps.{Step, step-stops, step-goes}
 use Rattle.factor.specs.InPlace.{inPlace}
-use Rattle.joint.specs.RowsInPlace.{RowDone, elementOf, rowOrder, row-done-same, element-same, row-stopped, row-passed, no-row}
+use Rattle.rows.specs.RowsInPlace.{RowDone, elementOf, rowOrder, row-done-same, element-same, row-stopped, row-passed, no-row}
 use Rattle.rectangle.specs.UndoingOrder.{nthRow, pairOrder, weightsOf, nth-row-below, pair-order-permutes, pair-order-row}
 use Rattle.rectangle.specs.UndoingOrder.{row-unwritten}
 

@@ -36,7 +36,7 @@ use Rattle.factor.specs.InPlace.{inPlace, in-place-undoes}
 use Rattle.joint.specs.Sums.{inColumn, columnSums, jointSum}
 use Rattle.joint.specs.Elements.{signAt, diagonalOf, sumsAt, roundedSum, appliedAt, undoneAt, appliedOf, undoneOf}
 use Rattle.joint.specs.Allowances.{magnitudeSums, magnitudeSum, wholeRow, allowedAt, allowedOf}
-use Rattle.joint.specs.RowsInPlace.{elementOf, rowOrder, in-place-fill}
+use Rattle.rows.specs.RowsInPlace.{elementOf, rowOrder, in-place-fill}
 use Rattle.rectangle.specs.Multiples.{joint-whole}
 use Rattle.rectangle.specs.Moves.{sourceOf}
 use Rattle.rectangle.specs.Weights.{diagonal-there, across-row, magnitude-there, magnitudes-row-is}

@@ -10,9 +10,9 @@ use factor::run::Outcome;
 use factor::run::Run;
 use factor::run::Task;
 use factor::run::is_inverse;
-use joint::rows::allow_row;
-use joint::rows::apply_row;
-use joint::rows::undo_row;
+use rows::allow_row;
+use rows::apply_row;
+use rows::undo_row;
 use rules::Rule;
 
 // The row in turn s. Undone, the rows go in the order of the column sheet's factor; else the row that is undone last comes first,

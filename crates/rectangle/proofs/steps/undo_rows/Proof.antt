@@ -5,7 +5,7 @@ use native.Mathlib.Omega.{arith}
 use mathlib.Core.Path.{_≡_}
 use Rattle.factor.specs.declared.run.Task.the-variants.{Inverse}
 use Rattle.factor.specs.Tasks.{limitOf}
-use Rattle.joint.specs.RowsInPlace.{elementOf, rowOrder}
+use Rattle.rows.specs.RowsInPlace.{elementOf, rowOrder}
 use Rattle.rectangle.specs.RowsInTurn.{Rows, no-rows, turn-below, row-more, row-stops, rows-all}
 use Rattle.rectangle.proofs.steps.undo_rows.Statement.{statement}
 use Rattle.rectangle.proofs.steps.undo_rows.Tie as tie

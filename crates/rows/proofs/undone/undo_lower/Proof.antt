@@ -1,0 +1,343 @@
+-- The block is as the turns so far leave it, all of it is in bound, and v has the row's sums with what is recovered.
+use borrow.Author.Tests.{not-true, not-false}
+use mathlib.Core.Path.{_≡_, refl, sym, ap, _∙_}
+use Prim.Native.Nat.{ℕ, _+_, _-_, _*_, _≤_, _<_}
+use native.Mathlib.Omega.{arith}
+use lib.IntN.{ℤ, _+ℤ_, _*ℤ_}
+use lib.ListN.{length, set, length-set}
+use mir.Syntax.{w32, w64}
+use mir.Val.{toZ, ofZ}
+use Rattle.whole.specs.Diff.{Within}
+use Rattle.whole.specs.Machine.{fits, reads, back, within-le}
+use Rattle.laws.specs.Tests.{apart}
+use Rattle.rules.specs.Numbers.{bound, at}
+use Rattle.rules.specs.Laws.Lists.{set-at}
+use Rattle.factor.specs.Layouts.{rowOf}
+use Rattle.factor.specs.SumBounds.{Bounded, bounded-le, bounded-set, test-no, test-yes}
+use Rattle.factor.specs.UndoingOrder.{nthUndone}
+use Rattle.factor.specs.InPlace.{inPlace, length-in-place}
+use Rattle.joint.specs.Sums.{mostColumn}
+use Rattle.joint.specs.Elements.{signAt, diagonalOf, undoneOf, rest-element-small}
+use Rattle.rows.specs.RecoveredSums.{recovered-sums-next, recovered-sums-small, recovered-sums-undo}
+use Rattle.rows.specs.RowsInPlace.{onward, run-next, run-stops, undone-here, in-block}
+use Rattle.rows.specs.Triangles.{totalOf, lower-at, lower-left, lower-next}
+use Rattle.rows.specs.TrianglesUndone.{recentOf, Recovered, undoneTurn, recent-next, lower-turn, undone-from}
+use Rattle.rows.proofs.undone.undo_lower.Statement.{statement}
+use Rattle.rows.proofs.undone.undo_lower.Tie as tie
+
+abbrev Inv-loop : tie.InvT-loop
+Inv-loop rule col fa row fb i from to v₀ x₀ n entries k p₀ last₀ j₀ v x p last j =
+    (from ≤ j) × (j ≤ to)
+    × (x ≡ inPlace (undoneOf rule col fa row fb) (onward (undoneTurn fb i) from) (j - from) x₀)
+    × Bounded bound x
+    × Recovered col fa i fb j x v
+    × (p ≡ rowOf fb j .at)
+    × (toZ w64 last ≡ recentOf v (λ t. t) j)
+
+abbrev μ-loop : tie.MeasureT-loop
+μ-loop rule col fa row fb i from to v₀ x₀ n entries k p₀ last₀ j₀ v x p last j = to - j
+
+-- what the run was lent
+abbrev S : tie.In-loop Inv-loop μ-loop → tie.Start Inv-loop μ-loop
+S c = c .before .before .before .before .before
+
+mul-k : tie.Need-mul-k Inv-loop μ-loop
+mul-k c = let g = c .pre .0 in let h = in-block 0 (g .column .order) (g .row .order) (g .below) (let l = g .low in omega arith) in omega arith
+
+before-lower-requires : tie.Need-before-lower-requires Inv-loop μ-loop
+before-lower-requires c κs = let o = c .pre .0 .row .order in let a = c .pre .2 in let b = c .pre .3 in omega arith
+
+first-at : (c : tie.After-before-lower Inv-loop μ-loop) →
+    c .before .args .fb .entries + c .before-lower .result ≡ rowOf (c .before .args .fb) (c .before .args .from) .at
+first-at c =
+    let s = c .before in
+    ap (λ (z : ℕ). s .args .fb .entries + z) (c .before-lower .ensures) ∙ sym (lower-at (s .args .fb) (s .args .from) (s .pre .1))
+
+add-p : tie.Need-add-p Inv-loop μ-loop
+add-p c =
+    let s = c .before in
+    let e = first-at c in
+    let h = s .pre .0 .row .row (s .args .from) (let a = s .pre .2 in let b = s .pre .3 in omega arith) .room in
+    omega arith
+
+left-of-requires : tie.Need-left-of-requires Inv-loop μ-loop
+left-of-requires c κs =
+    let s = c .before .before in
+    let o = s .pre .0 .row .order in
+    let a = s .pre .2 in
+    let b = s .pre .3 in
+    (omega arith, s .pre .0 .recovered .small)
+
+loop-holds : tie.Need-loop-holds Inv-loop μ-loop
+unfolding inPlace
+loop-holds c =
+    let s = c .before .before .before in
+    let z : s .args .from - s .args .from ≡ 0 = omega arith in (
+      omega arith,
+      (let a = s .pre .2 in omega arith),
+      rw z,
+      s .pre .0 .small,
+      s .pre .0 .recovered,
+      first-at (c .before .before),
+      back w64 _ (c .left-of .ok) ∙ c .left-of .ensures,
+    )
+
+-- the element in turn is one of the row
+inside : (c : tie.In-loop Inv-loop μ-loop) → c .before .loop .j < S c .args .fb .order
+inside c = let h = c .loop-test .taken in let l = S c .pre .3 in omega arith
+
+sign-at-requires : tie.Need-sign-at-requires Inv-loop μ-loop
+sign-at-requires c κs = (S c .pre .0 .column, S c .pre .0 .below)
+
+lower-total-requires : tie.Need-lower-total-requires Inv-loop μ-loop
+lower-total-requires c κs =
+    let i = c .before .before in
+    let l = i .before .loop in
+    ((S i .pre .0 .row, inside i, l .inv .4 .small), S i .pre .1, l .inv .5, l .inv .6)
+
+sign-at-requires-2 : tie.Need-sign-at-requires-2 Inv-loop μ-loop
+sign-at-requires-2 c κs = let i = c .before .before .before in (S i .pre .0 .row, inside i)
+
+-- its place
+abbrev P : tie.In-loop Inv-loop μ-loop → ℕ
+P c = S c .args .i * S c .args .fb .order + c .before .loop .j
+
+room : (c : tie.In-loop Inv-loop μ-loop) → P c < 256
+room c = let g = S c .pre .0 in in-block (c .before .loop .j) (g .column .order) (g .row .order) (g .below) (inside c)
+
+add-undone-whole : tie.Need-add-undone-whole Inv-loop μ-loop
+add-undone-whole c = let h = room (c .before .before .before .before) in omega arith
+
+mul-undone-whole : tie.Need-mul-undone-whole Inv-loop μ-loop
+mul-undone-whole c = let h = room (c .before .before .before .before) in omega arith
+
+element-copy-out-undone-whole : tie.Need-element-copy-out-undone-whole Inv-loop μ-loop
+element-copy-out-undone-whole c = room (c .before .before .before .before)
+
+-- the sign of its row, its sum, its own sign and its number
+abbrev D : tie.In-loop Inv-loop μ-loop → ℤ
+D c = signAt (S c .args .col .now) (S c .args .fa) (S c .args .i)
+
+row-sign : (c : tie.After-sign-at Inv-loop μ-loop) → toZ w32 (ofZ w32 (c .sign-at .result)) ≡ D (c .before)
+row-sign c = back w32 _ (c .sign-at .ok) ∙ c .sign-at .ensures
+
+total : (c : tie.After-lower-total Inv-loop μ-loop) →
+    let i = c .before .before .before in
+    toZ w64 (ofZ w64 (c .lower-total .result)) ≡ totalOf (S i .args .row .now) (S i .args .fb) (i .before .loop .j) (i .before .loop .v)
+total c = back w64 _ (c .lower-total .ok) ∙ c .lower-total .ensures
+
+sign : (c : tie.After-sign-at2 Inv-loop μ-loop) →
+    let i = c .before .before .before .before in
+    toZ w32 (ofZ w32 (c .sign-at2 .result)) ≡ signAt (S i .args .row .now) (S i .args .fb) (i .before .loop .j)
+sign c = back w32 _ (c .sign-at2 .ok) ∙ c .sign-at2 .ensures
+
+number : (c : tie.In-loop Inv-loop μ-loop) → toZ w32 (ofZ w32 (at (c .before .loop .x) (P c))) ≡ at (c .before .loop .x) (P c)
+number c = reads w32 (c .before .loop .inv .3 .small _) tt
+
+undone-whole-requires : tie.Need-undone-whole-requires Inv-loop μ-loop
+undone-whole-requires c κs =
+    let i = c .before .before .before .before .before in
+    let g = S i .pre .0 in
+    let l = i .before .loop in
+    rw (total (c .before .before), row-sign (c .before .before .before .before), sign (c .before), number i) (
+      rest-element-small (g .row) (l .j) (inside i) (l .inv .4 .small),
+      g .column .sign (S i .args .i) (g .below),
+      g .row .sign (l .j) (inside i),
+      l .inv .3 .small _,
+    )
+
+-- what it was
+abbrev F : tie.In-loop Inv-loop μ-loop → ℤ
+F c =
+    let a = S c .args in undoneOf (a .rule) (a .col .now) (a .fa) (a .row .now) (a .fb) (c .before .loop .x) (P c)
+
+-- its turn
+turn : (c : tie.In-loop Inv-loop μ-loop) →
+    let f = S c .args .fb in nthUndone (f .kind) (f .order) (f .row) (c .before .loop .j) ≡ c .before .loop .j
+turn c = lower-turn (S c .args .fb) (c .before .loop .j) (S c .pre .1)
+
+value : (c : tie.After-undone-whole Inv-loop μ-loop) → toZ w64 (ofZ w64 (c .undone-whole .result)) ≡ F (c .before .before .before .before .before .before)
+value c =
+    let i = c .before .before .before .before .before .before in
+    let a = S i .args in
+    let g = S i .pre .0 in
+    let l = i .before .loop in
+    back w64 _ (c .undone-whole .ok) ∙ c .undone-whole .ensures
+    ∙ rw (total (c .before .before .before), row-sign (c .before .before .before .before .before), sign (c .before .before), number i)
+    (undone-from (a .rule) (a .row .now) (a .fb) (l .j) (D i) (l .v) (at (l .x) (P i))
+    ∙ (rw (turn i) at (recovered-sums-undo (a .col .now) (a .fa) (a .i) (a .fb) (g .low) (g .row .order) (g .column) (g .below) (l .j)
+    (inside i) (l .inv .4 .sums) (g .row) (a .rule)))
+    ∙ sym (undone-here (a .rule) (a .col .now) (a .fa) (a .row .now) (a .fb) (l .x) (a .i) (l .j) (inside i)))
+
+is-within-requires : tie.Need-is-within-requires Inv-loop μ-loop
+is-within-requires c κs = tt
+
+returns : tie.Need-returns Inv-loop μ-loop
+returns c =
+    let i = c .before .before .before .before .before .before .before .before in
+    let s = S i in
+    let l = i .before .loop in (
+      record {
+        through = λ e. apart (sym e);
+        stopped = λ e.
+            run-stops _ (undoneTurn (s .args .fb) (s .args .i)) (s .args .from) (s .args .to) (l .j) (s .args .x .now) (l .inv .0)
+            (i .loop-test .taken) (l .inv .2)
+            (rw (turn i) (test-no bound (value (c .before .before)) (c .before .is-within .ensures) (not-true _ (c .if1 .taken))));
+        keeps = ap length (l .inv .2) ∙ length-in-place _ _ (l .j - s .args .from) _;
+      },
+      λ e. apart (sym e),
+    )
+
+held : (c : tie.Else1 Inv-loop μ-loop) → Within bound (F (c .before .before .before .before .before .before .before .before))
+held c = test-yes bound (value (c .before .before)) (c .before .is-within .ensures) (not-false _ (c .if1 .left))
+
+cast-x : tie.Need-cast-x Inv-loop μ-loop
+cast-x c = rw (value (c .before .before)) (fits (held c) tt)
+
+add-t25 : tie.Need-add-t25 Inv-loop μ-loop
+add-t25 c = let h = room (c .before .before .before .before .before .before .before .before) in omega arith
+
+mul-t26 : tie.Need-mul-t26 Inv-loop μ-loop
+mul-t26 c = let h = room (c .before .before .before .before .before .before .before .before) in omega arith
+
+element-set-from-x : tie.Need-element-set-from-x Inv-loop μ-loop
+element-set-from-x c = room (c .before .before .before .before .before .before .before .before)
+
+-- its column
+column : (c : tie.In-loop Inv-loop μ-loop) → c .before .loop .j < 16
+column c = let h = inside c in let o = S c .pre .0 .row .order in omega arith
+
+mul-with-diagonal : tie.Need-mul-with-diagonal Inv-loop μ-loop
+mul-with-diagonal c = let h = column (c .before .before .before .before .before .before .before .before) in omega arith
+
+element-copy-out-with-diagonal : tie.Need-element-copy-out-with-diagonal Inv-loop μ-loop
+element-copy-out-with-diagonal c = column (c .before .before .before .before .before .before .before .before)
+
+with-diagonal-requires : tie.Need-with-diagonal-requires Inv-loop μ-loop
+with-diagonal-requires c κs =
+    let e = c .before in
+    let i = e .before .before .before .before .before .before .before .before in
+    let g = S i .pre .0 in
+    let v = i .before .loop .inv .4 .small .small (i .before .loop .j) in
+    rw (reads w64 v tt, row-sign (e .before .before .before .before .before .before .before), value (e .before .before))
+    (within-le (omega arith) v, g .column .sign (S i .args .i) (g .below), within-le (omega arith) (held e))
+
+-- the sum of its column, with it
+abbrev G : tie.In-loop Inv-loop μ-loop → ℤ
+G c = at (c .before .loop .v) (c .before .loop .j) +ℤ (diagonalOf (D c) *ℤ F c)
+
+sum-is : (c : tie.After-with-diagonal Inv-loop μ-loop) → toZ w64 (ofZ w64 (c .with-diagonal .result)) ≡ G (c .before .before .before .before .before .before .before .before .before .before)
+sum-is c =
+    let e = c .before .before in
+    let i = e .before .before .before .before .before .before .before .before in
+    back w64 _ (c .with-diagonal .ok) ∙ c .with-diagonal .ensures
+    ∙ rw (reads w64 (i .before .loop .inv .4 .small .small (i .before .loop .j)) tt, row-sign (e .before .before .before .before .before .before .before), value (e .before .before))
+
+mul-last : tie.Need-mul-last Inv-loop μ-loop
+mul-last c = let h = column (c .before .before .before .before .before .before .before .before .before .before) in omega arith
+
+element-set-from-last : tie.Need-element-set-from-last Inv-loop μ-loop
+element-set-from-last c = column (c .before .before .before .before .before .before .before .before .before .before)
+
+add-p-2 : tie.Need-add-p-2 Inv-loop μ-loop
+add-p-2 c =
+    let i = c .before .before .before .before .before .before .before .before .before .before in
+    let s = S i in
+    let l = i .before .loop in
+    let r = s .pre .0 .row .row (l .j) (inside i) .room in
+    let e = lower-left (s .args .fb) (l .j) (s .pre .1) in
+    let p = l .inv .5 in
+    omega arith
+
+add-j : tie.Need-add-j Inv-loop μ-loop
+add-j c = let h = c .before .before .before .before .before .before .before .before .before .before .loop-test .taken in omega arith
+
+loop-less : tie.Need-loop-less Inv-loop μ-loop
+loop-less c = omega arith
+
+long : (c : tie.In-loop Inv-loop μ-loop) → length (c .before .loop .x) ≡ 256
+long c =
+    let l = c .before .loop in
+    ap length (l .inv .2) ∙ length-in-place _ _ (l .j - S c .args .from) _ ∙ S c .pre .0 .long
+
+next : (c : tie.In-loop Inv-loop μ-loop) → Within bound (F c) →
+    let a = S c .args in
+    let l = c .before .loop in
+    Recovered (a .col .now) (a .fa) (a .i) (a .fb) (l .j + 1) (set (l .x) (P c) (F c)) (set (l .v) (l .j) (G c))
+next c h =
+    let a = S c .args in
+    let g = S c .pre .0 in
+    let l = c .before .loop in
+    let r = l .inv .4 in
+    record {
+      sums = rw (turn c) at (recovered-sums-next (a .col .now) (a .fa) (a .i) (a .fb) (g .low) (g .row .order) (g .column) (g .below) (l .j)
+          (inside c) (r .sums) (F c) (rw (turn c) (let b = room c in omega (arith, long c))) (r .long));
+      small = bounded-set (l .v) (l .j) (r .small) (rw (turn c) at (recovered-sums-small (a .col .now) (a .fa) (a .i) (a .fb) (g .low)
+          (g .row .order) (g .column) (g .below) (l .j) (inside c) (r .sums) (bounded-le (omega arith) (l .inv .3)) (within-le (omega arith) h)));
+      long = length-set (l .v) (l .j) _ ∙ r .long;
+    }
+
+loop-again : tie.Need-loop-again Inv-loop μ-loop
+loop-again c =
+    let e = c .before .before in
+    let i = e .before .before .before .before .before .before .before .before in
+    let s = S i in
+    let l = i .before .loop in
+    let z = reads w32 (held e) tt in (
+      (let a = l .inv .0 in omega arith),
+      (let h = i .loop-test .taken in omega arith),
+      rw (value (e .before .before), z)
+          (rw (turn i) at (run-next _ (undoneTurn (s .args .fb) (s .args .i)) (s .args .from) (l .j) (s .args .x .now) (l .inv .0) (l .inv .2))),
+      rw (value (e .before .before), z) (bounded-set (l .x) (P i) (l .inv .3) (held e)),
+      rw (value (e .before .before), z, sum-is c) (next i (held e)),
+      ap (λ (z : ℕ). z + l .j) (l .inv .5) ∙ lower-next (s .args .fb) (l .j) (s .pre .1),
+      sum-is c ∙ sym (rw (sum-is c) (recent-next _ (λ t. t) (l .j) ∙ set-at (l .v) (l .j) (G i) (omega (arith, column i, l .inv .4 .long)))),
+    )
+
+returns-2 : tie.Need-returns-2 Inv-loop μ-loop
+returns-2 c =
+    let s = c .before .before .before .before .before in
+    let l = c .before .loop in
+    let e : l .j ≡ s .args .to = let a = l .inv .1 in omega arith in (
+      record {
+        through = λ t. (rw e at (l .inv .2), l .inv .3);
+        stopped = λ t. apart t;
+        keeps = ap length (l .inv .2) ∙ length-in-place _ _ (l .j - s .args .from) _;
+      },
+      λ t. rw e at (l .inv .4),
+    )
+
+pub undo-lower-spec : {M : Type 1} → statement M
+undo-lower-spec =
+    tie.close
+    (tie.spec
+    Inv-loop
+    μ-loop
+    mul-k
+    before-lower-requires
+    add-p
+    left-of-requires
+    loop-holds
+    sign-at-requires
+    lower-total-requires
+    sign-at-requires-2
+    add-undone-whole
+    mul-undone-whole
+    element-copy-out-undone-whole
+    undone-whole-requires
+    is-within-requires
+    returns
+    cast-x
+    add-t25
+    mul-t26
+    element-set-from-x
+    mul-with-diagonal
+    element-copy-out-with-diagonal
+    with-diagonal-requires
+    mul-last
+    element-set-from-last
+    add-p-2
+    add-j
+    loop-less
+    loop-again
+    returns-2)

@@ -1,0 +1,6 @@
+pub mod RowsInPlace
+pub mod RecoveredSums
+pub mod Triangles
+pub mod TrianglesUndone
+pub mod SingleRows
+pub mod SingleRowsInPlace

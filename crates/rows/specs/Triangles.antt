@@ -1,0 +1,115 @@
+-- ROWS UNDER A LOWER OR AN UPPER FACTOR, as the code goes through them: a run of elements at a time, each from the sums of its row
+-- and from its own number.
+use mathlib.Core.Bool.{Bool}
+use mathlib.Core.List.{List}
+use mathlib.Core.Logic.{_≢_}
+use mathlib.Core.Path.{_≡_, refl, sym, ap, _∙_}
+use Prim.Native.Nat.{ℕ, zero, suc, _+_, _-_, _*_, _≤_, _<_}
+use native.Mathlib.Nat.{zero-add}
+use native.Mathlib.Numerals.{add-one}
+use native.Mathlib.Omega.{arith}
+use lib.IntN.{ℤ, pos, _+ℤ_, _*ℤ_, +ℤ-idl, +ℤ-idr}
+use lib.ListN.{length}
+use Rattle.whole.specs.Laws.{Sign}
+use Rattle.whole.specs.Sum.{sum, sum-cong}
+use Rattle.rules.specs.declared.Rule.{Rule}
+use Rattle.rules.specs.declared.Kind.the-variants.{Lower, Upper}
+use Rattle.rules.specs.Sheets.{triangle}
+use Rattle.rules.specs.Factors.{above}
+use Rattle.rules.specs.Numbers.{bound, at}
+use Rattle.factor.specs.declared.Layout.{Layout}
+use Rattle.factor.specs.Layouts.{rowBy, rowOf}
+use Rattle.factor.specs.SumBounds.{Bounded}
+use Rattle.factor.specs.LayoutInSheet.{InSheet}
+use Rattle.factor.specs.InPlace.{inPlace, in-place-other}
+use Rattle.joint.specs.Sums.{across, entriesSum, jointSum, mostColumn, wide-runs}
+use Rattle.joint.specs.Elements.{signAt, diagonalOf, sumsAt, roundedSum, appliedFrom, appliedAt, appliedOf}
+use Rattle.rows.specs.RowsInPlace.{RowDone, plain, inRow, onward, run-order, row-done-along, applied-here}
+
+-- ---- definitions
+-- what the sum of element j asks
+abbrev pub TotalGiven : List ℤ → Layout → ℕ → List ℤ → Type 0
+TotalGiven s f j v = InSheet s f × (j < f .order) × Bounded mostColumn v
+
+-- the whole sum of element j: its entries and its diagonal's weight, each times a sum over a column
+abbrev pub totalOf : List ℤ → Layout → ℕ → List ℤ → ℤ
+totalOf s f j v = across s (rowOf f j) j (diagonalOf (signAt s f j)) (at v)
+
+-- what a run of elements asks of the row that starts at place k and has the sign d and the sums v
+abbrev pub RunGiven : List ℤ → Layout → ℤ → List ℤ → ℕ → List ℤ → Type 0
+RunGiven s f d v k x = InSheet s f × Sign d × Bounded mostColumn v × (k + f .order ≤ 256) × Bounded bound x × (0 < f .order)
+
+-- what the element at place e becomes, w the block as it stands
+unfoldable pub appliedIn : Rule → List ℤ → Layout → ℤ → List ℤ → ℕ → List ℤ → ℕ → ℤ
+appliedIn rule s f d v k w e = appliedAt rule s f (e - k) d v (at w e)
+
+-- ---- laws
+-- where the entries of row j stand, and how many they are
+module _ (f : Layout) (j : ℕ) where
+  pub lower-at : f .kind ≡ Lower → rowOf f j .at ≡ f .entries + triangle j
+  unfolding rowBy
+  lower-at e = rw e
+
+  pub lower-left : f .kind ≡ Lower → rowOf f j .left ≡ j
+  unfolding rowBy
+  lower-left e = rw e
+
+  pub upper-at : f .kind ≡ Upper → rowOf f j .at ≡ f .entries + above (f .order) j
+  unfolding rowBy
+  upper-at e = rw e
+
+  pub upper-left : f .kind ≡ Upper → rowOf f j .left ≡ 0
+  unfolding rowBy
+  upper-left e = rw e
+
+  pub upper-right : f .kind ≡ Upper → rowOf f j .right ≡ f .order - suc j
+  unfolding rowBy
+  upper-right e = rw e
+
+  -- one run of entries is all of them
+  pub lower-entries : f .kind ≡ Lower → {p : ℕ} → p ≡ rowOf f j .at → (s v : List ℤ) →
+      sum j (λ t. at s (p + t) *ℤ at v (0 + t)) ≡ entriesSum s (rowOf f j) j (at v)
+  unfolding entriesSum rowBy sum
+  lower-entries e q s v = rw (q, e) (sum-cong j _ _ (λ t l. rw zero-add) ∙ sym (+ℤ-idr _))
+
+  pub upper-entries : f .kind ≡ Upper → {p m : ℕ} → p ≡ rowOf f j .at → m ≡ f .order - suc j → (s v : List ℤ) →
+      sum m (λ t. at s (p + t) *ℤ at v (j + 1 + t)) ≡ entriesSum s (rowOf f j) j (at v)
+  unfolding entriesSum rowBy sum
+  upper-entries e q g s v =
+      rw (q, g, e) (sum-cong (f .order - suc j) _ _ (λ t l. let z : f .entries + above (f .order) j + 0 + t ≡ f .entries + above (f .order) j + t = omega arith in rw (z, add-one))
+      ∙ sym (+ℤ-idl _))
+
+-- the next row's entries
+pub lower-next : (f : Layout) (j : ℕ) → f .kind ≡ Lower → rowOf f j .at + j ≡ rowOf f (j + 1) .at
+unfolding triangle
+lower-next f j e = rw (lower-at f j e, lower-at f (j + 1) e, add-one) (omega arith)
+
+pub upper-next : (f : Layout) (j : ℕ) → f .kind ≡ Upper → rowOf f j .at + (f .order - 1 - j) ≡ rowOf f (j + 1) .at
+unfolding above
+upper-next f j e = rw (upper-at f j e, upper-at f (j + 1) e, add-one) (omega arith)
+
+-- an element from its whole sum
+pub applied-from : (rule : Rule) (s : List ℤ) (f : Layout) (j : ℕ) (d : ℤ) (v : List ℤ) (x : ℤ) →
+    appliedFrom rule (totalOf s f j v) d (signAt s f j) x ≡ appliedAt rule s f j d v x
+unfolding appliedFrom appliedAt roundedSum jointSum
+applied-from rule s f j d v x = refl
+
+-- the element in turn j of the row that starts at k
+pub applied-in : (rule : Rule) (s : List ℤ) (f : Layout) (d : ℤ) (v : List ℤ) (k j : ℕ) (w : List ℤ) →
+    appliedIn rule s f d v k w (k + j) ≡ appliedAt rule s f j d v (at w (k + j))
+unfolding appliedIn
+applied-in rule s f d v k j w = let e : k + j - k ≡ j = omega arith in rw e
+
+-- a row by the sums of the block before it
+pub applied-row : (rule : Rule) (c : List ℤ) (fa : Layout) (r : List ℤ) (fb : Layout) (i : ℕ) (x : List ℤ) {y : List ℤ} {most : ℕ}
+    {ok : Bool} → let n = fb .order in
+    RowDone most (appliedIn rule r fb (signAt c fa i) (sumsAt c fa i x n) (i * n)) (λ u. i * n + u) n x y ok →
+    RowDone most (plain (appliedOf rule c fa r fb x)) (inRow n i) n x y ok
+applied-row rule c fa r fb i x h =
+    row-done-along _ _
+    (λ u l.
+    applied-in rule r fb (signAt c fa i) (sumsAt c fa i x (fb .order)) (i * fb .order) u _
+    ∙ ap (appliedAt rule r fb u (signAt c fa i) (sumsAt c fa i x (fb .order)))
+    (in-place-other _ _ u x (i * fb .order + u) (λ t b z. omega arith))
+    ∙ sym (applied-here rule c fa r fb x i u l))
+    h

@@ -1,0 +1,158 @@
+-- ROWS UNDER A LOWER OR AN UPPER FACTOR THAT ARE UNDONE: the sums with what is recovered, and the latest of them.
+use mathlib.Core.Bool.{Bool, true}
+use mathlib.Core.List.{List}
+use mathlib.Core.Logic.{_≢_}
+use mathlib.Core.Path.{_≡_, refl, sym, ap, _∙_}
+use Prim.Native.Nat.{ℕ, zero, suc, _+_, _-_, _*_, _≤_, _<_}
+use native.Mathlib.Numerals.{add-one}
+use native.Mathlib.Omega.{arith}
+use lib.IntN.{ℤ, pos, _+ℤ_, _*ℤ_}
+use lib.ListN.{length}
+use Rattle.whole.specs.Diff.{lia}
+use Rattle.whole.specs.Sum.{sum, sum-first}
+use Rattle.rules.specs.declared.Rule.{Rule}
+use Rattle.rules.specs.declared.Kind.the-variants.{Lower, Upper}
+use Rattle.rules.specs.Factors.{above}
+use Rattle.rules.specs.Numbers.{unit, bound, at}
+use Rattle.rules.specs.Laws.Lists.{length-fill}
+use Rattle.factor.specs.declared.Layout.{Layout}
+use Rattle.factor.specs.SumBounds.{Bounded, bounded-le}
+use Rattle.factor.specs.LayoutInSheet.{InSheet, row-wide}
+use Rattle.factor.specs.UndoingOrder.{nthUndone}
+use Rattle.joint.specs.Sums.{Wide, mostColumn, restSums, rest-sums-small}
+use Rattle.joint.specs.Elements.{signAt, restSumsAt, undoneFrom, roundedRest, undoneRest}
+use Rattle.rows.specs.RowsInPlace.{RowDone, inRow}
+use Rattle.rows.specs.Triangles.{totalOf}
+use Rattle.rows.specs.RecoveredSums.{RecoveredSums, recovered-sums-start}
+
+-- ---- definitions
+-- the largest own term
+abbrev pub mostOwn : ℕ
+mostOwn = unit * mostColumn
+
+-- of numbers v that come in the order q, the latest of t of them; before the first, 0
+unfoldable pub recentOf : List ℤ → (ℕ → ℕ) → ℕ → ℤ
+recentOf v q zero = pos 0
+recentOf v q (suc t) = at v (q t)
+
+-- the sums of row i after t turns
+pub record Recovered (c : List ℤ) (fa : Layout) (i : ℕ) (fb : Layout) (t : ℕ) (x v : List ℤ) : Type 0 where
+  pub sums : RecoveredSums c fa i fb t x v
+  pub small : Bounded mostColumn v
+  pub long : length v ≡ 16
+
+-- what a run of turns asks, t of them being done
+pub record UndoGiven (c : List ℤ) (fa : Layout) (r : List ℤ) (fb : Layout) (i t : ℕ) (x v : List ℤ) : Type 0 where
+  pub column : InSheet c fa
+  pub row : InSheet r fb
+  pub below : i < fa .order
+  pub low : fb .row < fb .order
+  pub small : Bounded bound x
+  pub long : length x ≡ 256
+  pub recovered : Recovered c fa i fb t x v
+
+-- the place of the element in turn u
+abbrev pub undoneTurn : Layout → ℕ → ℕ → ℕ
+undoneTurn fb i u = inRow (fb .order) i (nthUndone (fb .kind) (fb .order) (fb .row) u)
+
+-- ---- laws
+pub recent-none : (v : List ℤ) (q : ℕ → ℕ) {t : ℕ} → t ≡ 0 → recentOf v q t ≡ pos 0
+unfolding recentOf
+recent-none v q e = rw e
+
+pub recent-some : (v : List ℤ) (q : ℕ → ℕ) (t : ℕ) → t ≢ 0 → recentOf v q t ≡ at v (q (t - 1))
+unfolding recentOf
+recent-some v q zero h = absurd (h refl)
+recent-some v q (suc t) h = let e : suc t - 1 ≡ t = omega arith in rw e
+
+pub recent-next : (v : List ℤ) (q : ℕ → ℕ) (t : ℕ) → recentOf v q (t + 1) ≡ at v (q t)
+unfolding recentOf
+recent-next v q t = rw add-one
+
+-- the last term of a sum apart, and the first
+pub sum-last : (m : ℕ) (f : ℕ → ℤ) → m ≢ 0 → sum (m - 1) f +ℤ f (m - 1) ≡ sum m f
+unfolding sum
+sum-last zero f h = absurd (h refl)
+sum-last (suc m) f h = let e : suc m - 1 ≡ m = omega arith in rw e
+
+pub sum-head : (m : ℕ) (f : ℕ → ℤ) → m ≢ 0 → f 0 +ℤ sum (m - 1) (λ j. f (suc j)) ≡ sum m f
+sum-head zero f h = absurd (h refl)
+sum-head (suc m) f h = let e : suc m - 1 ≡ m = omega arith in rw e (sym (sum-first m f))
+
+-- fewer entries, and those after the first
+pub wide-less : {a v : List ℤ} {p k m : ℕ} (n : ℕ) → n ≤ m → Wide a p v k m → Wide a p v k n
+wide-less n l h = record {
+  room = let d = h .room in omega arith;
+  columns = let d = h .columns in omega arith;
+  entries = λ j b. h .entries j (omega arith);
+  numbers = h .numbers;
+}
+
+pub wide-after : {a v : List ℤ} {p k m : ℕ} → m ≢ 0 → Wide a p v k m → Wide a (p + 1) v (k + 1) (m - 1)
+wide-after {p} {m} q h =
+    let b : 1 ≤ m = one m q in
+    record {
+      room = let d = h .room in omega arith;
+      columns = let d = h .columns in omega arith;
+      entries = λ j l. let e : p + 1 + j ≡ p + (j + 1) = omega arith in rw e (h .entries (j + 1) (omega arith));
+      numbers = h .numbers;
+    }
+  where
+    one : (m : ℕ) → m ≢ 0 → 1 ≤ m
+    one zero h = absurd (h refl)
+    one (suc m) h = omega arith
+
+pub lower-turn : (f : Layout) (t : ℕ) → f .kind ≡ Lower → nthUndone (f .kind) (f .order) (f .row) t ≡ t
+unfolding nthUndone
+lower-turn f t e = rw e
+
+pub upper-turn : (f : Layout) (t : ℕ) → f .kind ≡ Upper → nthUndone (f .kind) (f .order) (f .row) t ≡ f .order - suc t
+unfolding nthUndone
+upper-turn f t e = rw e
+
+-- an element from its whole sum
+pub undone-from : (rule : Rule) (s : List ℤ) (f : Layout) (j : ℕ) (d : ℤ) (v : List ℤ) (x : ℤ) →
+    undoneFrom rule (totalOf s f j v) d (signAt s f j) x ≡ undoneRest rule s f j d v x
+unfolding undoneFrom undoneRest roundedRest
+undone-from rule s f j d v x = refl
+
+-- the entries above a row of an upper factor, and its own
+pub above-step : (n t : ℕ) → t < n → above n (n - t) ≡ above n (n - 1 - t) + t
+unfolding above
+above-step n t l =
+    let e : n - t ≡ suc (n - 1 - t) = omega arith in
+    let f : n - suc (n - 1 - t) ≡ t = omega arith in
+    rw (e, f)
+
+-- what the next run asks, after one that every number passed
+pub undo-given : {c r x v y w : List ℤ} {fa fb : Layout} {i a b m : ℕ} {step : List ℤ → ℕ → ℤ} {q : ℕ → ℕ} {ok : Bool} →
+    UndoGiven c fa r fb i a x v → RowDone bound step q m x y ok → ok ≡ true → Recovered c fa i fb b y w →
+    UndoGiven c fa r fb i b y w
+undo-given g h t k = record {
+  column = g .column;
+  row = g .row;
+  below = g .below;
+  low = g .low;
+  small = h .through t .1;
+  long = h .keeps ∙ g .long;
+  recovered = k;
+}
+
+-- before the first turn
+pub undo-start : (c : List ℤ) (fa : Layout) (r : List ℤ) (fb : Layout) (i : ℕ) (x : List ℤ) {v : List ℤ} → InSheet c fa → InSheet r fb →
+    i < fa .order → fb .row < fb .order → Bounded bound x → length x ≡ 256 → v ≡ restSumsAt c fa i x (fb .order) →
+    UndoGiven c fa r fb i 0 x v
+unfolding restSums
+undo-start c fa r fb i x a b l o h n e = record {
+  column = a;
+  row = b;
+  below = l;
+  low = o;
+  small = h;
+  long = n;
+  recovered = record {
+    sums = recovered-sums-start c fa i fb o (b .order) x e;
+    small = rw e (rest-sums-small (fb .order) (row-wide (a .order) (a .row i l)) (bounded-le (omega arith) h));
+    long = ap length e ∙ length-fill _ _ _;
+  };
+}
