@@ -20,7 +20,7 @@ use Rattle.factor.specs.Layouts.{rowOf}
 use Rattle.factor.specs.SumBounds.{Bounded, bounded-le}
 use Rattle.factor.specs.LayoutInSheet.{InSheet, row-wide}
 use Rattle.factor.specs.Rounding.{rounded-within}
-use Rattle.joint.specs.Sums.{across, columnSums, restSums, jointSum, mostColumn, Band, columns-small, joint-small}
+use Rattle.joint.specs.Sums.{across, columnSums, restSums, jointSum, mostColumn, Band, columns-small}
 use Rattle.joint.specs.Sums.{across-small}
 
 -- ---- definitions
@@ -100,15 +100,6 @@ sums-small h i l n q = columns-small n (band-at h i l) (bounded-le (omega arith)
 abbrev pub mostJoint : ℕ
 mostJoint = 16 * (mostEntry * mostColumn) + mostEntry * mostEntry * mostAllowance
 
-module _ {s : List ℤ} {f : Layout} {d x : ℤ} {v : List ℤ} (h : InSheet s f) (j : ℕ) (l : j < f .order) (g : Sign d)
-    (q : Bounded mostColumn v) (k : Within bound x) where
-  pub element-small : Within mostJoint (jointSum s (rowOf f j) j (diagonalOf (signAt s f j)) (diagonalOf d) v x)
-  element-small = joint-small (band-at h j l) (diagonal-small g) q (within-le (omega arith) k)
-
-  pub rounded-sum-small : (rule : Rule) → Within (mostJoint + 8388608) (roundedSum rule s f j d v x)
-  unfolding roundedSum
-  rounded-sum-small rule = rounded-within rule unit² element-small
-
 module _ {s : List ℤ} {f : Layout} {v : List ℤ} (h : InSheet s f) (j : ℕ) (l : j < f .order) (q : Bounded mostColumn v) where
   pub rest-element-small : Within mostJoint (across s (rowOf f j) j (diagonalOf (signAt s f j)) (at v))
   rest-element-small = within-le (omega arith) (across-small (band-at h j l) (at v) (q .small))
@@ -133,5 +124,7 @@ own-inside Nearest s d e x =
     k : ℤ
     k = (d *ℤ e) *ℤ x
 
-    apart-own : (s : ℤ) → (s +ℤ pos 8388608) -ℤ (pos unit² *ℤ ((d *ℤ e) *ℤ x)) ≡ (s -ℤ (((pos unit *ℤ d) *ℤ (pos unit *ℤ e)) *ℤ x)) +ℤ pos 8388608
+    apart-own :
+        (s : ℤ) → (s +ℤ pos 8388608) -ℤ (pos unit² *ℤ ((d *ℤ e) *ℤ x)) ≡ (s -ℤ (((pos unit *ℤ d) *ℤ (pos unit *ℤ e)) *ℤ x)) +ℤ
+        pos 8388608
     apart-own s = simp lia (omega arith)

@@ -11,7 +11,7 @@ ghost use Rattle.factor.specs.SumBounds.{Bounded};
 ghost use Rattle.factor.specs.LayoutInSheet.{InSheet};
 ghost use Rattle.joint.specs.Sums.{mostColumn};
 ghost use Rattle.joint.specs.Elements.{signAt, diagonalOf, sumsAt, restSumsAt};
-ghost use Rattle.joint.specs.Elements.{RowGiven, ElementGiven, roundedSum, roundedRest, appliedAt, undoneRest};
+ghost use Rattle.joint.specs.Elements.{RowGiven, ElementGiven, roundedRest, undoneRest};
 ghost use Rattle.joint.specs.Elements.{mostJoint, appliedFrom, undoneFrom};
 use crate::sums::column_sums;
 use crate::sums::rest_sums;

@@ -22,7 +22,6 @@ use Rattle.rules.specs.Laws.Rectangles.{row-of, col-of}
 use Rattle.factor.specs.declared.Layout.{Layout}
 use Rattle.factor.specs.declared.run.Task.{Task}
 use Rattle.factor.specs.declared.run.Task.the-variants.{Forward, Inverse, Allowance}
-use Rattle.factor.specs.declared.run.Run.{Run}
 use Rattle.factor.specs.Layouts.{rowOf}
 use Rattle.factor.specs.LayoutInSheet.{InSheet}
 use Rattle.factor.specs.UndoingOrder.{nthUndone}
@@ -75,9 +74,6 @@ unfoldable pub elementOf : Task → Rule → List ℤ → Layout → List ℤ �
 elementOf Forward rule c fa r fb x v e = plain (appliedOf rule c fa r fb x) v e
 elementOf Inverse rule c fa r fb x v e = undoneOf rule c fa r fb v e
 elementOf Allowance rule c fa r fb x v e = plain (allowedOf rule c fa r fb x) v e
-
-abbrev pub elementBy : Run → List ℤ → Layout → List ℤ → Layout → List ℤ → List ℤ → ℕ → ℤ
-elementBy run c fa r fb x v e = elementOf (run .task) (run .rule) c fa r fb x v e
 
 -- ---- laws
 

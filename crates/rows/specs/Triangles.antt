@@ -1,15 +1,14 @@
--- ROWS UNDER A LOWER OR AN UPPER FACTOR, as the code goes through them: a run of elements at a time, each from the sums of its row
+-- ROWS UNDER A LOWER OR AN UPPER FACTOR, as the code goes through them: a run of elements at a time, each from the sums of its
+-- row
 -- and from its own number.
 use mathlib.Core.Bool.{Bool}
 use mathlib.Core.List.{List}
-use mathlib.Core.Logic.{_≢_}
 use mathlib.Core.Path.{_≡_, refl, sym, ap, _∙_}
-use Prim.Native.Nat.{ℕ, zero, suc, _+_, _-_, _*_, _≤_, _<_}
+use Prim.Native.Nat.{ℕ, suc, _+_, _-_, _*_, _≤_, _<_}
 use native.Mathlib.Nat.{zero-add}
 use native.Mathlib.Numerals.{add-one}
 use native.Mathlib.Omega.{arith}
-use lib.IntN.{ℤ, pos, _+ℤ_, _*ℤ_, +ℤ-idl, +ℤ-idr}
-use lib.ListN.{length}
+use lib.IntN.{ℤ, _+ℤ_, _*ℤ_, +ℤ-idl, +ℤ-idr}
 use Rattle.whole.specs.Laws.{Sign}
 use Rattle.whole.specs.Sum.{sum, sum-cong}
 use Rattle.rules.specs.declared.Rule.{Rule}
@@ -21,10 +20,10 @@ use Rattle.factor.specs.declared.Layout.{Layout}
 use Rattle.factor.specs.Layouts.{rowBy, rowOf}
 use Rattle.factor.specs.SumBounds.{Bounded}
 use Rattle.factor.specs.LayoutInSheet.{InSheet}
-use Rattle.factor.specs.InPlace.{inPlace, in-place-other}
-use Rattle.joint.specs.Sums.{across, entriesSum, jointSum, mostColumn, wide-runs}
+use Rattle.factor.specs.InPlace.{in-place-other}
+use Rattle.joint.specs.Sums.{across, entriesSum, jointSum, mostColumn}
 use Rattle.joint.specs.Elements.{signAt, diagonalOf, sumsAt, roundedSum, appliedFrom, appliedAt, appliedOf}
-use Rattle.rows.specs.RowsInPlace.{RowDone, plain, inRow, onward, run-order, row-done-along, applied-here}
+use Rattle.rows.specs.RowsInPlace.{RowDone, plain, inRow, row-done-along, applied-here}
 
 -- ---- definitions
 -- what the sum of element j asks
@@ -76,7 +75,8 @@ module _ (f : Layout) (j : ℕ) where
       sum m (λ t. at s (p + t) *ℤ at v (j + 1 + t)) ≡ entriesSum s (rowOf f j) j (at v)
   unfolding entriesSum rowBy sum
   upper-entries e q g s v =
-      rw (q, g, e) (sum-cong (f .order - suc j) _ _ (λ t l. let z : f .entries + above (f .order) j + 0 + t ≡ f .entries + above (f .order) j + t = omega arith in rw (z, add-one))
+      rw (q, g, e) (sum-cong (f .order - suc j) _ _ (λ t l. let z : f .entries + above (f .order) j + 0 + t ≡ f .entries + above
+      (f .order) j + t = omega arith in rw (z, add-one))
       ∙ sym (+ℤ-idl _))
 
 -- the next row's entries

@@ -6,9 +6,8 @@ use mathlib.Core.Path.{_≡_, refl, sym, ap, _∙_}
 use Prim.Native.Nat.{ℕ, zero, suc, _+_, _-_, _*_, _≤_, _<_}
 use native.Mathlib.Numerals.{add-one}
 use native.Mathlib.Omega.{arith}
-use lib.IntN.{ℤ, pos, _+ℤ_, _*ℤ_}
+use lib.IntN.{ℤ, pos, _+ℤ_}
 use lib.ListN.{length}
-use Rattle.whole.specs.Diff.{lia}
 use Rattle.whole.specs.Sum.{sum, sum-first}
 use Rattle.rules.specs.declared.Rule.{Rule}
 use Rattle.rules.specs.declared.Kind.the-variants.{Lower, Upper}
@@ -139,7 +138,8 @@ undo-given g h t k = record {
 }
 
 -- before the first turn
-pub undo-start : (c : List ℤ) (fa : Layout) (r : List ℤ) (fb : Layout) (i : ℕ) (x : List ℤ) {v : List ℤ} → InSheet c fa → InSheet r fb →
+pub undo-start :
+    (c : List ℤ) (fa : Layout) (r : List ℤ) (fb : Layout) (i : ℕ) (x : List ℤ) {v : List ℤ} → InSheet c fa → InSheet r fb →
     i < fa .order → fb .row < fb .order → Bounded bound x → length x ≡ 256 → v ≡ restSumsAt c fa i x (fb .order) →
     UndoGiven c fa r fb i 0 x v
 unfolding restSums

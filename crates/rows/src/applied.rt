@@ -183,7 +183,8 @@ pub fn apply_lower_row(
     i: usize,
     x: &mut [i32; 256],
 ) -> Outcome
-    requires { ⌜ InSheet (now col) fa × InSheet (now row) fb × (i < fa .order) × Bounded bound (now x) × (0 < fb .order) × (fb .kind ≡ Lower) ⌝ }
+    requires { ⌜ InSheet (now col) fa × InSheet (now row) fb × (i < fa .order) × Bounded bound (now x)
+        × (0 < fb .order) × (fb .kind ≡ Lower) ⌝ }
     ensures { λ r. ⌜ RowDone bound (plain (appliedOf rule (now (col .entry)) fa (now (row .entry)) fb (now (x .entry))))
         (inRow (fb .order) i) (fb .order) (now (x .entry)) (now (x .exit)) (r .ok) ⌝ }
 {
@@ -203,7 +204,8 @@ pub fn apply_upper_row(
     i: usize,
     x: &mut [i32; 256],
 ) -> Outcome
-    requires { ⌜ InSheet (now col) fa × InSheet (now row) fb × (i < fa .order) × Bounded bound (now x) × (0 < fb .order) × (fb .kind ≡ Upper) ⌝ }
+    requires { ⌜ InSheet (now col) fa × InSheet (now row) fb × (i < fa .order) × Bounded bound (now x)
+        × (0 < fb .order) × (fb .kind ≡ Upper) ⌝ }
     ensures { λ r. ⌜ RowDone bound (plain (appliedOf rule (now (col .entry)) fa (now (row .entry)) fb (now (x .entry))))
         (inRow (fb .order) i) (fb .order) (now (x .entry)) (now (x .exit)) (r .ok) ⌝ }
 {

@@ -1,6 +1,5 @@
 // One row of elements: every number that it makes is in bound, or the row stops there. A row is part of one stage, so its
 // outcome is that of a run of this stage alone.
-ghost use mathlib.Core.Path.{_≡_};
 ghost use Prim.Native.Nat.{_<_};
 ghost use Rattle.rules.specs.Numbers.{bound, mostAllowance};
 ghost use Rattle.factor.specs.SumBounds.{Bounded};
@@ -29,8 +28,8 @@ mod applied; // a row under a lower or an upper factor, applied
 mod undone; // the same, undone
 mod single; // a row under single-row factors
 
-// Row i applied in place, by its kind: an element looks at the row's sums, made before, and at its own number. A permutation never
-// comes here.
+// Row i applied in place, by its kind: an element looks at the row's sums, made before, and at its own number. A permutation
+// never comes here.
 pub fn apply_row(
     rule: Rule,
     col: &[i32],

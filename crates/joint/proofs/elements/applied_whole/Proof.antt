@@ -1,9 +1,8 @@
 -- The own term passes through the rounding (`own-inside`).
-use mathlib.Core.Path.{_≡_, _∙_}
-use lib.IntN.{pos}
+use mathlib.Core.Path.{_∙_}
 use mir.Facts.{toZ-ofZ}
 use mir.Syntax.{w64}
-use Rattle.whole.specs.Machine.{fits, reads, back, within-+, within-pos}
+use Rattle.whole.specs.Machine.{fits, back, within-+, within-pos}
 use Rattle.rules.specs.Numbers.{unit²}
 use Rattle.factor.specs.Rounding.{rounded-within}
 use Rattle.joint.specs.Elements.{own-inside}

@@ -17,7 +17,9 @@ returns : tie.Need-returns
 returns c = rw (toZ-ofZ (c .before .fits .w), sym (flips c)) (toZ-ofZ (c .before .pre .1))
 
 returns-2 : tie.Need-returns-2
-returns-2 c = let s = c .before in rw (toZ-ofZ (s .fits .w)) (sym (sign-above _ (s .pre .0) (rw (toZ-ofZ (s .fits .d)) at (c .if1 .left))))
+returns-2 c =
+    let s = c .before in
+    rw (toZ-ofZ (s .fits .w)) (sym (sign-above _ (s .pre .0) (rw (toZ-ofZ (s .fits .d)) at (c .if1 .left))))
 
 pub turned-spec : {M : Type 1} → statement M
 turned-spec = tie.close (tie.spec sub-result returns returns-2)

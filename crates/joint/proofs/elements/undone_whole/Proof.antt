@@ -1,24 +1,22 @@
 -- The sum and its rounding fit 64 bits, and two signs are a sign.
-use mathlib.Core.Logic.{inl, inr}
-use mathlib.Core.Path.{_≡_, refl, _∙_}
+use mathlib.Core.Path.{_≡_, _∙_}
 use Prim.Native.Nat.{_+_, _*_}
-use native.Mathlib.Omega.{arith}
-use lib.IntN.{ℤ, pos, _-ℤ_, _*ℤ_}
+use lib.IntN.{ℤ, _*ℤ_}
 use mir.Facts.{toZ-ofZ}
 use mir.Syntax.{w32, w64}
 use mir.Val.{toZ, ofZ}
-use Rattle.whole.specs.Diff.{Within}
-use Rattle.whole.specs.Laws.{Sign, signs-times}
-use Rattle.whole.specs.Machine.{fits, reads, back, within-le, within-+, within--, within-*, within-pos, sign-within}
-use Rattle.rules.specs.Numbers.{unit², bound}
+use Rattle.whole.specs.Laws.{signs-times}
+use Rattle.whole.specs.Machine.{fits, back, within-+, within--, within-*, within-pos, sign-within}
+use Rattle.rules.specs.Numbers.{unit²}
 use Rattle.rules.specs.Stages.{R}
 use Rattle.factor.specs.Rounding.{rounded-within}
-use Rattle.joint.specs.Elements.{mostJoint, undoneFrom}
+use Rattle.joint.specs.Elements.{undoneFrom}
 use Rattle.joint.proofs.elements.undone_whole.Statement.{statement}
 use Rattle.joint.proofs.elements.undone_whole.Tie as tie
 
 both-signs-requires : tie.Need-both-signs-requires
-both-signs-requires c κs = rw (toZ-ofZ (c .fits .d), toZ-ofZ (c .fits .e)) (fits (sign-within (signs-times (c .pre .1) (c .pre .2))) tt)
+both-signs-requires c κs =
+    rw (toZ-ofZ (c .fits .d), toZ-ofZ (c .fits .e)) (fits (sign-within (signs-times (c .pre .1) (c .pre .2))) tt)
 
 sign : (c : tie.After-both-signs) → toZ w32 (ofZ w32 (c .both-signs .result)) ≡ c .before .args .d *ℤ c .before .args .e
 sign c = back w32 _ (c .both-signs .ok) ∙ c .both-signs .ensures ∙ rw (toZ-ofZ (c .before .fits .d), toZ-ofZ (c .before .fits .e))

@@ -1,17 +1,17 @@
 -- A sign turns a number within its bound, and the sum is far from 64 bits.
-use mathlib.Core.Path.{_≡_, sym, ap, _∙_}
+use mathlib.Core.Path.{_≡_, _∙_}
 use Prim.Native.Nat.{_*_}
 use native.Mathlib.Omega.{arith}
 use lib.IntN.{ℤ, pos, _+ℤ_, _*ℤ_}
 use mir.Facts.{toZ-ofZ}
-use mir.Syntax.{w32, w64}
+use mir.Syntax.{w64}
 use mir.Val.{toZ, ofZ}
 use Rattle.whole.specs.Diff.{lia, Within}
 use Rattle.whole.specs.Laws.{Sign}
 use Rattle.whole.specs.Machine.{fits, reads, back, within-le, within-+, within-*, within-pos, sign-within}
 use Rattle.rules.specs.Numbers.{unit}
 use Rattle.joint.specs.Sums.{mostColumn}
-use Rattle.joint.specs.Elements.{diagonalOf, mostJoint}
+use Rattle.joint.specs.Elements.{diagonalOf}
 use Rattle.joint.proofs.elements.with_diagonal.Statement.{statement}
 use Rattle.joint.proofs.elements.with_diagonal.Tie as tie
 
@@ -37,7 +37,8 @@ add-result c =
 returns : tie.Need-returns
 returns c =
     rw (value c, reads w64 (product c) tt, toZ-ofZ (c .before .fits .sum))
-    (reads w64 (within-+ (c .before .pre .0) (product c)) tt ∙ sides (c .before .args .sum) (c .before .args .d) (c .before .args .w))
+    (reads w64 (within-+ (c .before .pre .0) (product c)) tt ∙ sides (c .before .args .sum) (c .before .args .d) (c .before
+    .args .w))
   where
     sides : (s d w : ℤ) → s +ℤ (pos 4096 *ℤ (d *ℤ w)) ≡ s +ℤ (diagonalOf d *ℤ w)
     sides s d w = simp lia (omega arith)

@@ -1,7 +1,7 @@
 -- The block is as the turns so far leave it, all of it is in bound, and the entries of the element in turn start at p.
 use borrow.Author.Tests.{not-true, not-false}
-use mathlib.Core.Path.{_≡_, refl, sym, ap, _∙_}
-use Prim.Native.Nat.{ℕ, _+_, _-_, _*_, _≤_, _<_}
+use mathlib.Core.Path.{_≡_, sym, ap, _∙_}
+use Prim.Native.Nat.{ℕ, _+_, _-_, _≤_, _<_}
 use native.Mathlib.Omega.{arith}
 use lib.IntN.{ℤ}
 use lib.ListN.{length}
@@ -40,7 +40,9 @@ before-lower-requires c κs = let o = c .pre .0 .0 .order in let a = c .pre .2 i
 
 first-at : (c : tie.After-before-lower Inv-loop μ-loop) →
     c .before .args .f .entries + c .before-lower .result ≡ rowOf (c .before .args .f) (c .before .args .from) .at
-first-at c = let s = c .before in ap (λ (z : ℕ). s .args .f .entries + z) (c .before-lower .ensures) ∙ sym (lower-at (s .args .f) (s .args .from) (s .pre .1))
+first-at c =
+    let s = c .before in
+    ap (λ (z : ℕ). s .args .f .entries + z) (c .before-lower .ensures) ∙ sym (lower-at (s .args .f) (s .args .from) (s .pre .1))
 
 add-p : tie.Need-add-p Inv-loop μ-loop
 add-p c =
@@ -82,7 +84,8 @@ element-copy-out-applied-whole c = room (c .before .before)
 -- its sum, its sign and its number
 total : (c : tie.After-lower-total Inv-loop μ-loop) →
     let i = c .before in
-    toZ w64 (ofZ w64 (c .lower-total .result)) ≡ totalOf (S i .args .row .now) (S i .args .f) (i .before .loop .j) (S i .args .v .now)
+    toZ w64 (ofZ w64 (c .lower-total .result)) ≡ totalOf (S i .args .row .now) (S i .args .f) (i .before .loop .j) (S i .args .v
+    .now)
 total c = back w64 _ (c .lower-total .ok) ∙ c .lower-total .ensures
 
 sign : (c : tie.After-sign-at Inv-loop μ-loop) →
@@ -137,7 +140,8 @@ returns c =
       through = λ e. apart (sym e);
       stopped = λ e.
           rw (toZ-ofZ (s .fits .d)) at
-          (run-stops _ (λ u. s .args .k + u) (s .args .from) (s .args .to) (l .j) (s .args .x .now) (l .inv .0) (i .loop-test .taken) (l .inv .2)
+          (run-stops _ (λ u. s .args .k + u) (s .args .from) (s .args .to) (l .j) (s .args .x .now) (l .inv .0) (i .loop-test
+          .taken) (l .inv .2)
           (test-no bound (value (c .before .before)) (c .before .is-within .ensures) (not-true _ (c .if1 .taken))));
       keeps = ap length (l .inv .2) ∙ length-in-place _ _ (l .j - s .args .from) _;
     }
@@ -162,7 +166,10 @@ add-p-2 c =
     let i = c.before.before.before.before.before.before in
     let s = S i in
     let l = i .before .loop in
-    let r = s .pre .0 .0 .row (l .j) (inside i) .room in let e = lower-left (s .args .f) (l .j) (s .pre .1) in let p = l .inv .4 in omega arith
+    let r = s .pre .0 .0 .row (l .j) (inside i) .room in
+    let e = lower-left (s .args .f) (l .j) (s .pre .1) in
+    let p = l .inv .4 in
+    omega arith
 
 add-j : tie.Need-add-j Inv-loop μ-loop
 add-j c = let h = c.before.before.before.before.before.before .loop-test .taken in omega arith
@@ -178,7 +185,8 @@ loop-again c =
     let z = reads w32 (held c) tt in (
       (let a = l .inv .0 in omega arith),
       (let h = i .loop-test .taken in omega arith),
-      rw (value (c .before .before), z) (run-next _ (λ u. s .args .k + u) (s .args .from) (l .j) (s .args .x .now) (l .inv .0) (l .inv .2)),
+      rw (value (c .before .before), z) (run-next _ (λ u. s .args .k + u) (s .args .from) (l .j) (s .args .x .now) (l .inv .0)
+          (l .inv .2)),
       rw (value (c .before .before), z) (bounded-set (l .x) (s .args .k + l .j) (l .inv .3) (held c)),
       ap (λ (z : ℕ). z + l .j) (l .inv .4) ∙ lower-next (s .args .f) (l .j) (s .pre .1),
     )

@@ -1,9 +1,7 @@
 -- Runs one after another are one run (`run-both`).
 use borrow.Author.Needs.{needs}
 use borrow.Author.Tests.{not-true, not-false}
-use mathlib.Core.Bool.{true}
-use mathlib.Core.Path.{_≡_, refl, sym}
-use Prim.Native.Nat.{_+_}
+use mathlib.Core.Path.{refl}
 use native.Mathlib.Omega.{arith}
 use mir.Facts.{toZ-ofZ}
 use Rattle.rows.specs.RowsInPlace.{run-all, run-both, run-short}
@@ -49,7 +47,11 @@ apply-lower-requires-4 c κs =
 returns-4 : tie.Need-returns-4
 returns-4 c =
     let s = c .before .before .before .before .before .before .before .before .before in
-    let first = rw (toZ-ofZ (s .fits .d), not-false (c .before .before .before .before .apply-lower3 .result .ok) (c .before .before .if4 .left)) at (c .before .before .before .before .apply-lower3 .ensures) in
+    let first = rw (
+      toZ-ofZ (s .fits .d),
+      not-false (c .before .before .before .before .apply-lower3 .result .ok) (c .before
+          .before .if4 .left),
+    ) at (c .before .before .before .before .apply-lower3 .ensures) in
     run-both _ 8 16 (c .before .before .before .before .before .before .if3 .taken) (omega arith) (run-all _ 8 refl first)
     (rw (toZ-ofZ (s .fits .d)) at (c .apply-lower4 .ensures))
 
@@ -64,5 +66,6 @@ returns-5 c =
 pub apply-lower-elements-spec : {M : Type 1} → statement M
 apply-lower-elements-spec =
     tie.close
-    (tie.spec apply-lower-requires returns apply-lower-requires-2 returns-2 apply-lower-requires-3 returns-3 apply-lower-requires-4
+    (tie.spec apply-lower-requires returns apply-lower-requires-2 returns-2 apply-lower-requires-3 returns-3
+    apply-lower-requires-4
     returns-4 apply-lower-requires-5 returns-5)

@@ -52,7 +52,8 @@ returns : tie.Need-returns
 returns c =
     let s = c .before .before .before .before .before .before .before in
     applied-row (s .args .rule) (s .args .col .now) (s .args .fa) (s .args .row .now) (s .args .fb) (s .args .i) (s .args .x .now)
-    (rw (sign (c .before .before .before), c .before .before .before .before .sums-at .ensures) at (c .apply-lower-elements .ensures))
+    (rw (sign (c .before .before .before), c .before .before .before .before .sums-at .ensures) at (c .apply-lower-elements
+    .ensures))
 
 pub apply-lower-row-spec : {M : Type 1} → statement M
 apply-lower-row-spec =

@@ -1,7 +1,7 @@
 -- The block is as the turns so far leave it, all of it is in bound, and the entries of the element in turn start at p.
 use borrow.Author.Tests.{not-true, not-false}
-use mathlib.Core.Path.{_≡_, refl, sym, ap, _∙_}
-use Prim.Native.Nat.{ℕ, _+_, _-_, _*_, _≤_, _<_}
+use mathlib.Core.Path.{_≡_, sym, ap, _∙_}
+use Prim.Native.Nat.{ℕ, _+_, _-_, _≤_, _<_}
 use native.Mathlib.Omega.{arith}
 use lib.IntN.{ℤ}
 use lib.ListN.{length}
@@ -17,7 +17,8 @@ use Rattle.factor.specs.SumBounds.{Bounded, bounded-set, test-no, test-yes}
 use Rattle.factor.specs.InPlace.{inPlace, length-in-place}
 use Rattle.joint.specs.Elements.{signAt, rest-element-small}
 use Rattle.rows.specs.RowsInPlace.{onward, run-next, run-stops}
-use Rattle.rows.specs.Triangles.{totalOf, appliedIn, upper-at, upper-left, upper-right, upper-next, applied-from, applied-in}
+use Rattle.rows.specs.Triangles.{totalOf, appliedIn, upper-at, upper-left}
+use Rattle.rows.specs.Triangles.{upper-right, upper-next, applied-from, applied-in}
 use Rattle.rows.proofs.applied.apply_upper.Statement.{statement}
 use Rattle.rows.proofs.applied.apply_upper.Tie as tie
 
@@ -36,11 +37,19 @@ abbrev S : tie.In-loop Inv-loop μ-loop → tie.Start Inv-loop μ-loop
 S c = c .before .before .before
 
 before-upper-requires : tie.Need-before-upper-requires Inv-loop μ-loop
-before-upper-requires c κs = let o = c .pre .0 .0 .order in let e = c .pre .2 in let a = c .pre .3 in let b = c .pre .4 in (omega arith, omega arith)
+before-upper-requires c κs =
+    let o = c .pre .0 .0 .order in
+    let e = c .pre .2 in
+    let a = c .pre .3 in
+    let b = c .pre .4 in
+    (omega arith, omega arith)
 
 first-at : (c : tie.After-before-upper Inv-loop μ-loop) →
     c .before .args .f .entries + c .before-upper .result ≡ rowOf (c .before .args .f) (c .before .args .from) .at
-first-at c = let s = c .before in ap (λ (z : ℕ). s .args .f .entries + z) (c .before-upper .ensures ∙ rw (s .pre .2)) ∙ sym (upper-at (s .args .f) (s .args .from) (s .pre .1))
+first-at c =
+    let s = c .before in
+    ap (λ (z : ℕ). s .args .f .entries + z) (c .before-upper .ensures ∙ rw (s .pre .2)) ∙ sym (upper-at (s .args .f) (s .args
+    .from) (s .pre .1))
 
 add-p : tie.Need-add-p Inv-loop μ-loop
 add-p c =
@@ -82,7 +91,8 @@ element-copy-out-applied-whole c = room (c .before .before)
 -- its sum, its sign and its number
 total : (c : tie.After-upper-total Inv-loop μ-loop) →
     let i = c .before in
-    toZ w64 (ofZ w64 (c .upper-total .result)) ≡ totalOf (S i .args .row .now) (S i .args .f) (i .before .loop .j) (S i .args .v .now)
+    toZ w64 (ofZ w64 (c .upper-total .result)) ≡ totalOf (S i .args .row .now) (S i .args .f) (i .before .loop .j) (S i .args .v
+    .now)
 total c = back w64 _ (c .upper-total .ok) ∙ c .upper-total .ensures
 
 sign : (c : tie.After-sign-at Inv-loop μ-loop) →
@@ -137,7 +147,8 @@ returns c =
       through = λ e. apart (sym e);
       stopped = λ e.
           rw (toZ-ofZ (s .fits .d)) at
-          (run-stops _ (λ u. s .args .k + u) (s .args .from) (s .args .to) (l .j) (s .args .x .now) (l .inv .0) (i .loop-test .taken) (l .inv .2)
+          (run-stops _ (λ u. s .args .k + u) (s .args .from) (s .args .to) (l .j) (s .args .x .now) (l .inv .0) (i .loop-test
+          .taken) (l .inv .2)
           (test-no bound (value (c .before .before)) (c .before .is-within .ensures) (not-true _ (c .if1 .taken))));
       keeps = ap length (l .inv .2) ∙ length-in-place _ _ (l .j - s .args .from) _;
     }
@@ -168,7 +179,12 @@ add-p-2 c =
     let i = c.before.before.before.before.before.before in
     let s = S i in
     let l = i .before .loop in
-    let r = s .pre .0 .0 .row (l .j) (inside i) .room in let e = upper-left (s .args .f) (l .j) (s .pre .1) in let g = upper-right (s .args .f) (l .j) (s .pre .1) in let p = l .inv .4 in let q = s .pre .2 in omega arith
+    let r = s .pre .0 .0 .row (l .j) (inside i) .room in
+    let e = upper-left (s .args .f) (l .j) (s .pre .1) in
+    let g = upper-right (s .args .f) (l .j) (s .pre .1) in
+    let p = l .inv .4 in
+    let q = s .pre .2 in
+    omega arith
 
 add-j : tie.Need-add-j Inv-loop μ-loop
 add-j c = let h = c.before.before.before.before.before.before .loop-test .taken in omega arith
@@ -184,9 +200,11 @@ loop-again c =
     let z = reads w32 (held c) tt in (
       (let a = l .inv .0 in omega arith),
       (let h = i .loop-test .taken in omega arith),
-      rw (value (c .before .before), z) (run-next _ (λ u. s .args .k + u) (s .args .from) (l .j) (s .args .x .now) (l .inv .0) (l .inv .2)),
+      rw (value (c .before .before), z) (run-next _ (λ u. s .args .k + u) (s .args .from) (l .j) (s .args .x .now) (l .inv .0)
+          (l .inv .2)),
       rw (value (c .before .before), z) (bounded-set (l .x) (s .args .k + l .j) (l .inv .3) (held c)),
-      rw (s .pre .2) (ap (λ (z : ℕ). z + (s .args .f .order - 1 - l .j)) (l .inv .4) ∙ upper-next (s .args .f) (l .j) (s .pre .1)),
+      rw (s .pre .2) (ap (λ (z : ℕ). z + (s .args .f .order - 1 - l .j)) (l .inv .4) ∙ upper-next (s .args .f) (l .j) (s .pre
+          .1)),
     )
 
 returns-2 : tie.Need-returns-2 Inv-loop μ-loop

@@ -1,9 +1,7 @@
 -- Runs one after another are one run (`run-both`).
 use borrow.Author.Needs.{needs}
 use borrow.Author.Tests.{not-true, not-false}
-use mathlib.Core.Bool.{true}
-use mathlib.Core.Path.{_≡_, refl, sym}
-use Prim.Native.Nat.{_+_}
+use mathlib.Core.Path.{refl, sym}
 use native.Mathlib.Omega.{arith}
 use mir.Facts.{toZ-ofZ}
 use Rattle.rows.specs.RowsInPlace.{run-all, run-both, run-short}
@@ -44,12 +42,23 @@ apply-upper-requires-4 c κs =
     let g = s .pre .0 in
     let e = c .before .before .before .before .before .if3 .taken in
     let w = c .before .before .before .apply-upper3 .ensures .through (not-false _ (c .before .if4 .left)) in
-    rw (toZ-ofZ (s .fits .d)) ((g .0, g .1, g .2, g .3, w .1, g .5), s .pre .1, sym (c .before .before .before .before .before .if3 .taken), omega arith, omega arith)
+    rw (toZ-ofZ (s .fits .d)) (
+      (g .0, g .1, g .2, g .3, w .1, g .5),
+      s .pre .1,
+      sym (c .before .before .before .before .before
+          .if3 .taken),
+      omega arith,
+      omega arith,
+    )
 
 returns-4 : tie.Need-returns-4
 returns-4 c =
     let s = c .before .before .before .before .before .before .before .before .before in
-    let first = rw (toZ-ofZ (s .fits .d), not-false (c .before .before .before .before .apply-upper3 .result .ok) (c .before .before .if4 .left)) at (c .before .before .before .before .apply-upper3 .ensures) in
+    let first = rw (
+      toZ-ofZ (s .fits .d),
+      not-false (c .before .before .before .before .apply-upper3 .result .ok) (c .before
+          .before .if4 .left),
+    ) at (c .before .before .before .before .apply-upper3 .ensures) in
     run-both _ 8 16 (c .before .before .before .before .before .before .if3 .taken) (omega arith) (run-all _ 8 refl first)
     (rw (toZ-ofZ (s .fits .d)) at (c .apply-upper4 .ensures))
 
@@ -64,5 +73,6 @@ returns-5 c =
 pub apply-upper-elements-spec : {M : Type 1} → statement M
 apply-upper-elements-spec =
     tie.close
-    (tie.spec apply-upper-requires returns apply-upper-requires-2 returns-2 apply-upper-requires-3 returns-3 apply-upper-requires-4
+    (tie.spec apply-upper-requires returns apply-upper-requires-2 returns-2 apply-upper-requires-3 returns-3
+    apply-upper-requires-4
     returns-4 apply-upper-requires-5 returns-5)

@@ -1,15 +1,13 @@
 -- One run of entries is all of them (`lower-entries`).
 use borrow.Author.Needs.{needs}
-use mathlib.Core.Path.{_≡_, sym, _∙_}
-use Prim.Native.Nat.{_+_, _-_, suc}
+use mathlib.Core.Path.{_≡_, _∙_}
+use Prim.Native.Nat.{_-_}
 use native.Mathlib.Nat.{le-refl}
-use native.Mathlib.Numerals.{add-one}
 use native.Mathlib.Omega.{arith}
-use lib.IntN.{ℤ}
 use mir.Syntax.{w32, w64}
 use mir.Val.{toZ, ofZ}
 use Rattle.whole.specs.Diff.{Within}
-use Rattle.whole.specs.Machine.{fits, reads, back, within-le}
+use Rattle.whole.specs.Machine.{reads, back, within-le}
 use Rattle.rules.specs.Numbers.{at}
 use Rattle.factor.specs.Layouts.{rowOf}
 use Rattle.joint.specs.Sums.{Wide, entriesSum, left-wide, wide-small}
@@ -44,7 +42,8 @@ sign c = back w32 _ (c .sign-at .ok) ∙ c .sign-at .ensures
 
 -- the entries' part
 entries : (c : tie.After-wide-sum) →
-    toZ w64 (ofZ w64 (c .wide-sum .result)) ≡ entriesSum (c .before .args .row .now) (rowOf (c .before .args .f) (c .before .args .j))
+    toZ w64 (ofZ w64 (c .wide-sum .result)) ≡ entriesSum (c .before .args .row .now) (rowOf (c .before .args .f) (c .before
+    .args .j))
     (c .before .args .j) (at (c .before .args .v .now))
 entries c =
     let s = c .before in

@@ -1,15 +1,13 @@
 -- One run of entries is all of them (`upper-entries`).
 use borrow.Author.Needs.{needs}
-use mathlib.Core.Path.{_≡_, sym, _∙_}
+use mathlib.Core.Path.{_≡_, _∙_}
 use Prim.Native.Nat.{_+_, _-_, suc}
 use native.Mathlib.Nat.{le-refl, add-zero}
-use native.Mathlib.Numerals.{add-one}
 use native.Mathlib.Omega.{arith}
-use lib.IntN.{ℤ}
 use mir.Syntax.{w32, w64}
 use mir.Val.{toZ, ofZ}
 use Rattle.whole.specs.Diff.{Within}
-use Rattle.whole.specs.Machine.{fits, reads, back, within-le}
+use Rattle.whole.specs.Machine.{reads, back, within-le}
 use Rattle.rules.specs.Numbers.{at}
 use Rattle.factor.specs.Layouts.{rowOf}
 use Rattle.joint.specs.Sums.{Wide, entriesSum, right-wide, wide-small}
@@ -19,7 +17,9 @@ use Rattle.rows.proofs.applied.upper_total.Statement.{statement}
 use Rattle.rows.proofs.applied.upper_total.Tie as tie
 
 -- the entries of the row, and the sums that they meet
-run : (s : tie.Start) → Wide (s .args .row .now) (s .args .p) (s .args .v .now) (s .args .j + 1) (s .args .f .order - suc (s .args .j))
+run :
+    (s : tie.Start) → Wide (s .args .row .now) (s .args .p) (s .args .v .now) (s .args .j + 1) (s .args .f .order - suc (s .args
+    .j))
 run s =
     let f = s .args .f in
     let j = s .args .j in
@@ -49,7 +49,8 @@ sign c = back w32 _ (c .sign-at .ok) ∙ c .sign-at .ensures
 
 -- the entries' part
 entries : (c : tie.After-wide-sum) →
-    toZ w64 (ofZ w64 (c .wide-sum .result)) ≡ entriesSum (c .before .args .row .now) (rowOf (c .before .args .f) (c .before .args .j))
+    toZ w64 (ofZ w64 (c .wide-sum .result)) ≡ entriesSum (c .before .args .row .now) (rowOf (c .before .args .f) (c .before
+    .args .j))
     (c .before .args .j) (at (c .before .args .v .now))
 entries c =
     let s = c .before in

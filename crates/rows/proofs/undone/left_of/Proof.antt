@@ -1,5 +1,5 @@
 use borrow.Author.Needs.{needs}
-use mathlib.Core.Path.{_≡_, sym, _∙_}
+use mathlib.Core.Path.{sym, _∙_}
 use mir.Syntax.{w64}
 use Rattle.whole.specs.Machine.{reads}
 use Rattle.rows.specs.TrianglesUndone.{recent-none, recent-some}

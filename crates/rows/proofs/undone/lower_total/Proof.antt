@@ -1,8 +1,7 @@
 -- One run of entries is all of them (`lower-entries`).
 use borrow.Author.Needs.{needs}
-use mathlib.Core.Path.{_≡_, sym, ap, _∙_}
-use Prim.Native.Nat.{suc, _+_, _-_, _*_}
-use native.Mathlib.Nat.{add-zero}
+use mathlib.Core.Path.{_≡_, _∙_}
+use Prim.Native.Nat.{_+_, _-_, _*_}
 use native.Mathlib.Omega.{arith}
 use lib.IntN.{ℤ, pos, _+ℤ_, _*ℤ_}
 use mir.Facts.{toZ-ofZ}
@@ -13,9 +12,9 @@ use Rattle.whole.specs.Machine.{reads, back, within-le, within-*, within-pos, s
 use Rattle.whole.specs.Sum.{sum}
 use Rattle.rules.specs.Numbers.{unit, at}
 use Rattle.factor.specs.Layouts.{rowOf}
-use Rattle.joint.specs.Sums.{Wide, entriesSum, mostColumn, left-wide}
-use Rattle.joint.specs.Elements.{signAt, diagonalOf, band-at, diagonal-small}
-use Rattle.rows.specs.Triangles.{totalOf, lower-left, lower-entries}
+use Rattle.joint.specs.Sums.{Wide, entriesSum, left-wide}
+use Rattle.joint.specs.Elements.{signAt, diagonalOf, band-at}
+use Rattle.rows.specs.Triangles.{lower-left, lower-entries}
 use Rattle.rows.specs.TrianglesUndone.{mostOwn}
 use Rattle.rows.proofs.undone.lower_total.Statement.{statement}
 use Rattle.rows.proofs.undone.lower_total.Tie as tie
@@ -62,7 +61,8 @@ own-is c =
 
 own-small : (s : tie.Start) → Within mostOwn (O s)
 own-small s =
-    within-* {A = unit} (within-le {A = unit * 1} (omega arith) (within-* (within-pos unit) (sign-within (s .pre .0 .0 .sign (s .args .j) (s .pre .0 .1)))))
+    within-* {A = unit} (within-le {A = unit * 1} (omega arith) (within-* (within-pos unit) (sign-within (s .pre .0 .0 .sign (s
+    .args .j) (s .pre .0 .1)))))
     (s .pre .0 .2 .small (s .args .j))
 
 sum-ending-requires : tie.Need-sum-ending-requires
@@ -71,7 +71,8 @@ sum-ending-requires c κs =
     (run s, rw (own-is c) (own-small s), rw (toZ-ofZ (s .fits .last)) (s .pre .3))
 
 entries : (s : tie.Start) →
-    sum (s .args .j) (λ t. at (s .args .row .now) (s .args .p + t) *ℤ at (s .args .v .now) (0 + t)) ≡ entriesSum (s .args .row .now) (rowOf (s .args .f) (s .args .j)) (s .args .j) (at (s .args .v .now))
+    sum (s .args .j) (λ t. at (s .args .row .now) (s .args .p + t) *ℤ at (s .args .v .now) (0 + t)) ≡ entriesSum (s .args .row
+    .now) (rowOf (s .args .f) (s .args .j)) (s .args .j) (at (s .args .v .now))
 entries s = lower-entries (s .args .f) (s .args .j) (s .pre .1) (s .pre .2) (s .args .row .now) (s .args .v .now)
 
 either-way : (o a : ℤ) → o +ℤ a ≡ a +ℤ o
@@ -86,4 +87,5 @@ returns c =
 pub lower-total-spec : {M : Type 1} → statement M
 lower-total-spec =
     tie.close
-    (tie.spec sign-at-requires mul-with-diagonal element-copy-out-with-diagonal with-diagonal-requires sum-ending-requires returns)
+    (tie.spec sign-at-requires mul-with-diagonal element-copy-out-with-diagonal with-diagonal-requires sum-ending-requires
+    returns)

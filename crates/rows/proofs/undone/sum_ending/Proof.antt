@@ -1,19 +1,19 @@
 -- The last term comes last (`sum-last`).
 use borrow.Author.Needs.{needs}
-use mathlib.Core.Path.{_≡_, refl, sym, ap, ap₂, _∙_}
-use Prim.Native.Nat.{ℕ, suc, _+_, _-_, _*_}
+use mathlib.Core.Path.{_≡_, sym, ap, _∙_}
+use Prim.Native.Nat.{ℕ, _+_, _-_, _*_}
 use native.Mathlib.Nat.{le-refl}
 use native.Mathlib.Omega.{arith}
-use lib.IntN.{ℤ, pos, _+ℤ_, _*ℤ_, +ℤ-idr}
+use lib.IntN.{ℤ, _+ℤ_, _*ℤ_, +ℤ-idr}
 use mir.Facts.{toZ-ofZ}
 use mir.Syntax.{w32, w64}
 use mir.Val.{toZ, ofZ}
 use Rattle.whole.specs.Diff.{lia, Within}
-use Rattle.whole.specs.Machine.{fits, reads, back, within-le, within-+, within-*}
-use Rattle.whole.specs.Sum.{sum, sum-cong}
+use Rattle.whole.specs.Machine.{fits, reads, back, within-+, within-*}
+use Rattle.whole.specs.Sum.{sum}
 use Rattle.rules.specs.Numbers.{mostEntry, at}
 use Rattle.joint.specs.Sums.{Wide, mostColumn, wide-small}
-use Rattle.rows.specs.TrianglesUndone.{mostOwn, recentOf, recent-some, sum-last, wide-less}
+use Rattle.rows.specs.TrianglesUndone.{recent-some, sum-last, wide-less}
 use Rattle.rows.proofs.undone.sum_ending.Statement.{statement}
 use Rattle.rows.proofs.undone.sum_ending.Tie as tie
 
@@ -39,11 +39,14 @@ sum-is : (c : tie.After-wide-sum) →
     toZ w64 (ofZ w64 (c .wide-sum .result)) ≡ sum (c .before .before .args .m - 1) (T (c .before .before))
 sum-is c = back w64 _ (c .wide-sum .ok) ∙ c .wide-sum .ensures
 
-sum-small : (c : tie.After-wide-sum) → Within (16 * (mostEntry * mostColumn)) (sum (c .before .before .args .m - 1) (T (c .before .before)))
+sum-small :
+    (c : tie.After-wide-sum) → Within (16 * (mostEntry * mostColumn)) (sum (c .before .before .args .m - 1) (T (c .before
+    .before)))
 sum-small c = wide-small (fewer (c .before)) _ (le-refl _)
 
 add-with-sum : tie.Need-add-with-sum
-add-with-sum c = rw (sum-is c, toZ-ofZ (c .before .before .fits .own)) (fits (within-+ (c .before .before .pre .1) (sum-small c)) tt)
+add-with-sum c =
+    rw (sum-is c, toZ-ofZ (c .before .before .fits .own)) (fits (within-+ (c .before .before .pre .1) (sum-small c)) tt)
 
 -- the last entry, and the sum that it meets
 entry : (c : tie.Else1) → Within mostEntry (at (c .before .args .a .now) (c .before .args .p + (c .before .args .m - 1)))

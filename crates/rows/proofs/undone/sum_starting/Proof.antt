@@ -1,19 +1,19 @@
 -- The first term comes last (`sum-head`).
 use borrow.Author.Needs.{needs}
-use mathlib.Core.Path.{_≡_, refl, sym, ap, ap₂, _∙_}
+use mathlib.Core.Path.{_≡_, sym, ap, _∙_}
 use Prim.Native.Nat.{ℕ, suc, _+_, _-_, _*_}
 use native.Mathlib.Nat.{le-refl}
 use native.Mathlib.Omega.{arith}
-use lib.IntN.{ℤ, pos, _+ℤ_, _*ℤ_, +ℤ-idr}
+use lib.IntN.{ℤ, _+ℤ_, _*ℤ_, +ℤ-idr}
 use mir.Facts.{toZ-ofZ}
 use mir.Syntax.{w32, w64}
 use mir.Val.{toZ, ofZ}
 use Rattle.whole.specs.Diff.{lia, Within}
-use Rattle.whole.specs.Machine.{fits, reads, back, within-le, within-+, within-*}
+use Rattle.whole.specs.Machine.{fits, reads, back, within-+, within-*}
 use Rattle.whole.specs.Sum.{sum, sum-cong}
 use Rattle.rules.specs.Numbers.{mostEntry, at}
 use Rattle.joint.specs.Sums.{Wide, mostColumn, wide-small}
-use Rattle.rows.specs.TrianglesUndone.{mostOwn, sum-head, wide-after}
+use Rattle.rows.specs.TrianglesUndone.{sum-head, wide-after}
 use Rattle.rows.proofs.undone.sum_starting.Statement.{statement}
 use Rattle.rows.proofs.undone.sum_starting.Tie as tie
 
@@ -48,10 +48,12 @@ sum-is c =
 
 sum-small : (c : tie.After-wide-sum) →
     Within (16 * (mostEntry * mostColumn)) (sum (c .before .before .args .m - 1) (λ j. T (c .before .before) (suc j)))
-sum-small c = rw (sym (sum-is c), back w64 _ (c .wide-sum .ok), c .wide-sum .ensures) (wide-small (fewer (c .before)) _ (le-refl _))
+sum-small c =
+    rw (sym (sum-is c), back w64 _ (c .wide-sum .ok), c .wide-sum .ensures) (wide-small (fewer (c .before)) _ (le-refl _))
 
 add-with-sum : tie.Need-add-with-sum
-add-with-sum c = rw (sum-is c, toZ-ofZ (c .before .before .fits .own)) (fits (within-+ (c .before .before .pre .1) (sum-small c)) tt)
+add-with-sum c =
+    rw (sum-is c, toZ-ofZ (c .before .before .fits .own)) (fits (within-+ (c .before .before .pre .1) (sum-small c)) tt)
 
 -- the first entry, and the sum that it meets
 entry : (c : tie.Else1) → Within mostEntry (at (c .before .args .a .now) (c .before .args .p))
@@ -100,7 +102,8 @@ returns-2 c =
     (first-apart s ∙ ap (λ (z : ℤ). s .args .own +ℤ z) (sum-head (s .args .m) (T s) (w .before .if1 .left)))
   where
     first-apart : (s : tie.Start) →
-        (s .args .own +ℤ sum (s .args .m - 1) (λ j. T s (suc j))) +ℤ (at (s .args .a .now) (s .args .p) *ℤ at (s .args .v .now) (s .args .k))
+        (s .args .own +ℤ sum (s .args .m - 1) (λ j. T s (suc j))) +ℤ (at (s .args .a .now) (s .args .p) *ℤ at (s .args .v .now)
+        (s .args .k))
         ≡ s .args .own +ℤ (T s 0 +ℤ sum (s .args .m - 1) (λ j. T s (suc j)))
     first-apart s =
         let e : s .args .p + 0 ≡ s .args .p = omega arith in
@@ -117,4 +120,6 @@ add-wide-sum-2 : tie.Need-add-wide-sum-2
 add-wide-sum-2 c = search needs
 
 pub sum-starting-spec : {M : Type 1} → statement M
-sum-starting-spec = tie.close (tie.spec returns add-wide-sum add-wide-sum-2 sub-wide-sum wide-sum-requires add-with-sum mul-with-sum shared-slice-copy-out-with-sum with-sum-requires returns-2)
+sum-starting-spec =
+    tie.close (tie.spec returns add-wide-sum add-wide-sum-2 sub-wide-sum wide-sum-requires add-with-sum mul-with-sum
+    shared-slice-copy-out-with-sum with-sum-requires returns-2)

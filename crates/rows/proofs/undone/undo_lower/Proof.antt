@@ -1,6 +1,6 @@
 -- The block is as the turns so far leave it, all of it is in bound, and v has the row's sums with what is recovered.
 use borrow.Author.Tests.{not-true, not-false}
-use mathlib.Core.Path.{_≡_, refl, sym, ap, _∙_}
+use mathlib.Core.Path.{_≡_, sym, ap, _∙_}
 use Prim.Native.Nat.{ℕ, _+_, _-_, _*_, _≤_, _<_}
 use native.Mathlib.Omega.{arith}
 use lib.IntN.{ℤ, _+ℤ_, _*ℤ_}
@@ -16,7 +16,6 @@ use Rattle.factor.specs.Layouts.{rowOf}
 use Rattle.factor.specs.SumBounds.{Bounded, bounded-le, bounded-set, test-no, test-yes}
 use Rattle.factor.specs.UndoingOrder.{nthUndone}
 use Rattle.factor.specs.InPlace.{inPlace, length-in-place}
-use Rattle.joint.specs.Sums.{mostColumn}
 use Rattle.joint.specs.Elements.{signAt, diagonalOf, undoneOf, rest-element-small}
 use Rattle.rows.specs.RecoveredSums.{recovered-sums-next, recovered-sums-small, recovered-sums-undo}
 use Rattle.rows.specs.RowsInPlace.{onward, run-next, run-stops, undone-here, in-block}
@@ -42,7 +41,10 @@ abbrev S : tie.In-loop Inv-loop μ-loop → tie.Start Inv-loop μ-loop
 S c = c .before .before .before .before .before
 
 mul-k : tie.Need-mul-k Inv-loop μ-loop
-mul-k c = let g = c .pre .0 in let h = in-block 0 (g .column .order) (g .row .order) (g .below) (let l = g .low in omega arith) in omega arith
+mul-k c =
+    let g = c .pre .0 in
+    let h = in-block 0 (g .column .order) (g .row .order) (g .below) (let l = g .low in omega arith) in
+    omega arith
 
 before-lower-requires : tie.Need-before-lower-requires Inv-loop μ-loop
 before-lower-requires c κs = let o = c .pre .0 .row .order in let a = c .pre .2 in let b = c .pre .3 in omega arith
@@ -123,7 +125,8 @@ row-sign c = back w32 _ (c .sign-at .ok) ∙ c .sign-at .ensures
 
 total : (c : tie.After-lower-total Inv-loop μ-loop) →
     let i = c .before .before .before in
-    toZ w64 (ofZ w64 (c .lower-total .result)) ≡ totalOf (S i .args .row .now) (S i .args .fb) (i .before .loop .j) (i .before .loop .v)
+    toZ w64 (ofZ w64 (c .lower-total .result)) ≡ totalOf (S i .args .row .now) (S i .args .fb) (i .before .loop .j) (i .before
+    .loop .v)
 total c = back w64 _ (c .lower-total .ok) ∙ c .lower-total .ensures
 
 sign : (c : tie.After-sign-at2 Inv-loop μ-loop) →
@@ -156,16 +159,24 @@ turn : (c : tie.In-loop Inv-loop μ-loop) →
     let f = S c .args .fb in nthUndone (f .kind) (f .order) (f .row) (c .before .loop .j) ≡ c .before .loop .j
 turn c = lower-turn (S c .args .fb) (c .before .loop .j) (S c .pre .1)
 
-value : (c : tie.After-undone-whole Inv-loop μ-loop) → toZ w64 (ofZ w64 (c .undone-whole .result)) ≡ F (c .before .before .before .before .before .before)
+value :
+    (c : tie.After-undone-whole Inv-loop μ-loop) → toZ w64 (ofZ w64 (c .undone-whole .result)) ≡ F (c .before .before .before
+    .before .before .before)
 value c =
     let i = c .before .before .before .before .before .before in
     let a = S i .args in
     let g = S i .pre .0 in
     let l = i .before .loop in
     back w64 _ (c .undone-whole .ok) ∙ c .undone-whole .ensures
-    ∙ rw (total (c .before .before .before), row-sign (c .before .before .before .before .before), sign (c .before .before), number i)
+    ∙ rw (
+      total (c .before .before .before),
+      row-sign (c .before .before .before .before .before),
+      sign (c .before .before),
+      number i,
+    )
     (undone-from (a .rule) (a .row .now) (a .fb) (l .j) (D i) (l .v) (at (l .x) (P i))
-    ∙ (rw (turn i) at (recovered-sums-undo (a .col .now) (a .fa) (a .i) (a .fb) (g .low) (g .row .order) (g .column) (g .below) (l .j)
+    ∙ (rw (turn i) at (recovered-sums-undo (a .col .now) (a .fa) (a .i) (a .fb) (g .low) (g .row .order) (g .column) (g .below)
+    (l .j)
     (inside i) (l .inv .4 .sums) (g .row) (a .rule)))
     ∙ sym (undone-here (a .rule) (a .col .now) (a .fa) (a .row .now) (a .fb) (l .x) (a .i) (l .j) (inside i)))
 
@@ -182,7 +193,8 @@ returns c =
         stopped = λ e.
             run-stops _ (undoneTurn (s .args .fb) (s .args .i)) (s .args .from) (s .args .to) (l .j) (s .args .x .now) (l .inv .0)
             (i .loop-test .taken) (l .inv .2)
-            (rw (turn i) (test-no bound (value (c .before .before)) (c .before .is-within .ensures) (not-true _ (c .if1 .taken))));
+            (rw (turn i) (test-no bound (value (c .before .before)) (c .before .is-within .ensures) (not-true _ (c .if1
+            .taken))));
         keeps = ap length (l .inv .2) ∙ length-in-place _ _ (l .j - s .args .from) _;
       },
       λ e. apart (sym e),
@@ -226,12 +238,19 @@ with-diagonal-requires c κs =
 abbrev G : tie.In-loop Inv-loop μ-loop → ℤ
 G c = at (c .before .loop .v) (c .before .loop .j) +ℤ (diagonalOf (D c) *ℤ F c)
 
-sum-is : (c : tie.After-with-diagonal Inv-loop μ-loop) → toZ w64 (ofZ w64 (c .with-diagonal .result)) ≡ G (c .before .before .before .before .before .before .before .before .before .before)
+sum-is :
+    (c : tie.After-with-diagonal Inv-loop μ-loop) → toZ w64 (ofZ w64 (c .with-diagonal .result)) ≡ G (c .before .before .before
+    .before .before .before .before .before .before .before)
 sum-is c =
     let e = c .before .before in
     let i = e .before .before .before .before .before .before .before .before in
     back w64 _ (c .with-diagonal .ok) ∙ c .with-diagonal .ensures
-    ∙ rw (reads w64 (i .before .loop .inv .4 .small .small (i .before .loop .j)) tt, row-sign (e .before .before .before .before .before .before .before), value (e .before .before))
+    ∙ rw (
+      reads w64 (i .before .loop .inv .4 .small .small (i .before .loop .j)) tt,
+      row-sign (e .before .before .before .before
+          .before .before .before),
+      value (e .before .before),
+    )
 
 mul-last : tie.Need-mul-last Inv-loop μ-loop
 mul-last c = let h = column (c .before .before .before .before .before .before .before .before .before .before) in omega arith
@@ -250,7 +269,9 @@ add-p-2 c =
     omega arith
 
 add-j : tie.Need-add-j Inv-loop μ-loop
-add-j c = let h = c .before .before .before .before .before .before .before .before .before .before .loop-test .taken in omega arith
+add-j c =
+    let h = c .before .before .before .before .before .before .before .before .before .before .loop-test .taken in
+    omega arith
 
 loop-less : tie.Need-loop-less Inv-loop μ-loop
 loop-less c = omega arith
@@ -270,10 +291,15 @@ next c h =
     let l = c .before .loop in
     let r = l .inv .4 in
     record {
-      sums = rw (turn c) at (recovered-sums-next (a .col .now) (a .fa) (a .i) (a .fb) (g .low) (g .row .order) (g .column) (g .below) (l .j)
+      sums =
+          rw (turn c) at (recovered-sums-next (a .col .now) (a .fa) (a .i) (a .fb) (g .low) (g .row .order) (g .column) (g
+          .below) (l .j)
           (inside c) (r .sums) (F c) (rw (turn c) (let b = room c in omega (arith, long c))) (r .long));
-      small = bounded-set (l .v) (l .j) (r .small) (rw (turn c) at (recovered-sums-small (a .col .now) (a .fa) (a .i) (a .fb) (g .low)
-          (g .row .order) (g .column) (g .below) (l .j) (inside c) (r .sums) (bounded-le (omega arith) (l .inv .3)) (within-le (omega arith) h)));
+      small =
+          bounded-set (l .v) (l .j) (r .small) (rw (turn c) at (recovered-sums-small (a .col .now) (a .fa) (a .i) (a .fb) (g
+          .low)
+          (g .row .order) (g .column) (g .below) (l .j) (inside c) (r .sums) (bounded-le (omega arith) (l .inv .3)) (within-le
+          (omega arith) h)));
       long = length-set (l .v) (l .j) _ ∙ r .long;
     }
 
@@ -287,11 +313,17 @@ loop-again c =
       (let a = l .inv .0 in omega arith),
       (let h = i .loop-test .taken in omega arith),
       rw (value (e .before .before), z)
-          (rw (turn i) at (run-next _ (undoneTurn (s .args .fb) (s .args .i)) (s .args .from) (l .j) (s .args .x .now) (l .inv .0) (l .inv .2))),
+          (rw (turn i) at (run-next _ (undoneTurn (s .args .fb) (s .args .i)) (s .args .from) (l .j) (s .args .x .now) (l .inv
+          .0) (l .inv .2))),
       rw (value (e .before .before), z) (bounded-set (l .x) (P i) (l .inv .3) (held e)),
       rw (value (e .before .before), z, sum-is c) (next i (held e)),
       ap (λ (z : ℕ). z + l .j) (l .inv .5) ∙ lower-next (s .args .fb) (l .j) (s .pre .1),
-      sum-is c ∙ sym (rw (sum-is c) (recent-next _ (λ t. t) (l .j) ∙ set-at (l .v) (l .j) (G i) (omega (arith, column i, l .inv .4 .long)))),
+      sum-is c ∙ sym (rw (sum-is c) (recent-next _ (λ t. t) (l .j) ∙ set-at (l .v) (l .j) (G i) (omega (
+        arith,
+        column i,
+        l .inv
+            .4 .long,
+      )))),
     )
 
 returns-2 : tie.Need-returns-2 Inv-loop μ-loop

@@ -1,6 +1,6 @@
 -- The block is as the turns so far leave it, all of it is in bound, and v has the row's sums with what is recovered.
 use borrow.Author.Tests.{not-true, not-false}
-use mathlib.Core.Path.{_≡_, refl, sym, ap, _∙_}
+use mathlib.Core.Path.{_≡_, sym, ap, _∙_}
 use Prim.Native.Nat.{ℕ, suc, _+_, _-_, _*_, _≤_, _<_}
 use native.Mathlib.Omega.{arith}
 use lib.IntN.{ℤ, _+ℤ_, _*ℤ_}
@@ -17,12 +17,12 @@ use Rattle.factor.specs.Layouts.{rowOf}
 use Rattle.factor.specs.SumBounds.{Bounded, bounded-le, bounded-set, test-no, test-yes}
 use Rattle.factor.specs.UndoingOrder.{nthUndone}
 use Rattle.factor.specs.InPlace.{inPlace, length-in-place}
-use Rattle.joint.specs.Sums.{mostColumn}
 use Rattle.joint.specs.Elements.{signAt, diagonalOf, undoneOf, rest-element-small}
 use Rattle.rows.specs.RecoveredSums.{recovered-sums-next, recovered-sums-small, recovered-sums-undo}
 use Rattle.rows.specs.RowsInPlace.{onward, run-next, run-stops, undone-here, in-block}
 use Rattle.rows.specs.Triangles.{totalOf, upper-at, upper-left, upper-right}
-use Rattle.rows.specs.TrianglesUndone.{recentOf, Recovered, undoneTurn, recent-some, recent-next, upper-turn, undone-from, above-step}
+use Rattle.rows.specs.TrianglesUndone.{recentOf, Recovered, undoneTurn, recent-some}
+use Rattle.rows.specs.TrianglesUndone.{recent-next, upper-turn, undone-from, above-step}
 use Rattle.rows.proofs.undone.undo_upper.Statement.{statement}
 use Rattle.rows.proofs.undone.undo_upper.Tie as tie
 
@@ -43,7 +43,10 @@ abbrev S : tie.In-loop Inv-loop μ-loop → tie.Start Inv-loop μ-loop
 S c = c .before .before .before .before .before
 
 mul-k : tie.Need-mul-k Inv-loop μ-loop
-mul-k c = let g = c .pre .0 in let h = in-block 0 (g .column .order) (g .row .order) (g .below) (let l = g .low in omega arith) in omega arith
+mul-k c =
+    let g = c .pre .0 in
+    let h = in-block 0 (g .column .order) (g .row .order) (g .below) (let l = g .low in omega arith) in
+    omega arith
 
 sub-before-upper : tie.Need-sub-before-upper Inv-loop μ-loop
 sub-before-upper c = let l = c .pre .0 .low in let e = c .pre .4 in omega arith
@@ -52,7 +55,11 @@ sub-before-upper-2 : tie.Need-sub-before-upper-2 Inv-loop μ-loop
 sub-before-upper-2 c = let a = c .pre .2 in let b = c .pre .3 in let e = c .pre .4 in omega arith
 
 before-upper-requires : tie.Need-before-upper-requires Inv-loop μ-loop
-before-upper-requires c κs = let o = c .pre .0 .row .order in let l = c .pre .0 .low in let e = c .pre .4 in (omega arith, omega arith)
+before-upper-requires c κs =
+    let o = c .pre .0 .row .order in
+    let l = c .pre .0 .low in
+    let e = c .pre .4 in
+    (omega arith, omega arith)
 
 -- where the row after the first one's starts
 first-at : (c : tie.After-before-upper Inv-loop μ-loop) →
@@ -61,7 +68,8 @@ first-at : (c : tie.After-before-upper Inv-loop μ-loop) →
 first-at c =
     let s = c .before in
     let h : s .args .from < s .args .fb .order = let a = s .pre .2 in let b = s .pre .3 in omega arith in
-    ap (λ (z : ℕ). s .args .fb .entries + z + s .args .from) (c .before-upper .ensures ∙ ap (λ (m : ℕ). above m (m - 1 - s .args .from)) (s .pre .4))
+    ap (λ (z : ℕ). s .args .fb .entries + z + s .args .from) (c .before-upper .ensures ∙ ap (λ (m : ℕ). above m (m - 1 - s .args
+    .from)) (s .pre .4))
     ∙ (let g = above-step (s .args .fb .order) (s .args .from) h in omega arith)
 
 -- its entries lie in the sheet
@@ -153,7 +161,8 @@ upper-total-requires c κs =
       (let e = entries-at i in omega arith),
       (let e = s .pre .4 in let h = in-turn i in omega arith),
       λ some. l .inv .6 ∙ recent-some _ _ (l .t) (λ z. omega arith)
-          ∙ (let e : s .args .n - suc (l .t - 1) ≡ J i + 1 = let h = in-turn i in let q = s .pre .4 in omega arith in ap (at (l .v)) e),
+          ∙ (let e : s .args .n - suc (l .t - 1) ≡ J i + 1 = let h = in-turn i in let q = s .pre .4 in omega arith in ap (at (l
+          .v)) e),
     )
 
 sign-at-requires-2 : tie.Need-sign-at-requires-2 Inv-loop μ-loop
@@ -218,16 +227,24 @@ turn : (c : tie.In-loop Inv-loop μ-loop) →
 turn c =
     upper-turn (S c .args .fb) (c .before .loop .t) (S c .pre .1) ∙ (let e = S c .pre .4 in let h = in-turn c in omega arith)
 
-value : (c : tie.After-undone-whole Inv-loop μ-loop) → toZ w64 (ofZ w64 (c .undone-whole .result)) ≡ F (c .before .before .before .before .before .before)
+value :
+    (c : tie.After-undone-whole Inv-loop μ-loop) → toZ w64 (ofZ w64 (c .undone-whole .result)) ≡ F (c .before .before .before
+    .before .before .before)
 value c =
     let i = c .before .before .before .before .before .before in
     let a = S i .args in
     let g = S i .pre .0 in
     let l = i .before .loop in
     back w64 _ (c .undone-whole .ok) ∙ c .undone-whole .ensures
-    ∙ rw (total (c .before .before .before), row-sign (c .before .before .before .before .before), sign (c .before .before), number i)
+    ∙ rw (
+      total (c .before .before .before),
+      row-sign (c .before .before .before .before .before),
+      sign (c .before .before),
+      number i,
+    )
     (undone-from (a .rule) (a .row .now) (a .fb) (J i) (D i) (l .v) (at (l .x) (P i))
-    ∙ (rw (turn i) at (recovered-sums-undo (a .col .now) (a .fa) (a .i) (a .fb) (g .low) (g .row .order) (g .column) (g .below) (l .t)
+    ∙ (rw (turn i) at (recovered-sums-undo (a .col .now) (a .fa) (a .i) (a .fb) (g .low) (g .row .order) (g .column) (g .below)
+    (l .t)
     (in-turn i) (l .inv .4 .sums) (g .row) (a .rule)))
     ∙ sym (undone-here (a .rule) (a .col .now) (a .fa) (a .row .now) (a .fb) (l .x) (a .i) (J i) (inside i)))
 
@@ -244,7 +261,8 @@ returns c =
         stopped = λ e.
             run-stops _ (undoneTurn (s .args .fb) (s .args .i)) (s .args .from) (s .args .to) (l .t) (s .args .x .now) (l .inv .0)
             (i .loop-test .taken) (l .inv .2)
-            (rw (turn i) (test-no bound (value (c .before .before)) (c .before .is-within .ensures) (not-true _ (c .if1 .taken))));
+            (rw (turn i) (test-no bound (value (c .before .before)) (c .before .is-within .ensures) (not-true _ (c .if1
+            .taken))));
         keeps = ap length (l .inv .2) ∙ length-in-place _ _ (l .t - s .args .from) _;
       },
       λ e. apart (sym e),
@@ -288,12 +306,19 @@ with-diagonal-requires c κs =
 abbrev G : tie.In-loop Inv-loop μ-loop → ℤ
 G c = at (c .before .loop .v) (J c) +ℤ (diagonalOf (D c) *ℤ F c)
 
-sum-is : (c : tie.After-with-diagonal Inv-loop μ-loop) → toZ w64 (ofZ w64 (c .with-diagonal .result)) ≡ G (c .before .before .before .before .before .before .before .before .before .before)
+sum-is :
+    (c : tie.After-with-diagonal Inv-loop μ-loop) → toZ w64 (ofZ w64 (c .with-diagonal .result)) ≡ G (c .before .before .before
+    .before .before .before .before .before .before .before)
 sum-is c =
     let e = c .before .before in
     let i = e .before .before .before .before .before .before .before .before in
     back w64 _ (c .with-diagonal .ok) ∙ c .with-diagonal .ensures
-    ∙ rw (reads w64 (i .before .loop .inv .4 .small .small (J i)) tt, row-sign (e .before .before .before .before .before .before .before), value (e .before .before))
+    ∙ rw (
+      reads w64 (i .before .loop .inv .4 .small .small (J i)) tt,
+      row-sign (e .before .before .before .before .before
+          .before .before),
+      value (e .before .before),
+    )
 
 mul-last : tie.Need-mul-last Inv-loop μ-loop
 mul-last c = let h = column (c .before .before .before .before .before .before .before .before .before .before) in omega arith
@@ -302,7 +327,9 @@ element-set-from-last : tie.Need-element-set-from-last Inv-loop μ-loop
 element-set-from-last c = column (c .before .before .before .before .before .before .before .before .before .before)
 
 add-t : tie.Need-add-t Inv-loop μ-loop
-add-t c = let h = c .before .before .before .before .before .before .before .before .before .before .loop-test .taken in omega arith
+add-t c =
+    let h = c .before .before .before .before .before .before .before .before .before .before .loop-test .taken in
+    omega arith
 
 loop-less : tie.Need-loop-less Inv-loop μ-loop
 loop-less c = omega arith
@@ -322,10 +349,15 @@ next c h =
     let l = c .before .loop in
     let r = l .inv .4 in
     record {
-      sums = rw (turn c) at (recovered-sums-next (a .col .now) (a .fa) (a .i) (a .fb) (g .low) (g .row .order) (g .column) (g .below) (l .t)
+      sums =
+          rw (turn c) at (recovered-sums-next (a .col .now) (a .fa) (a .i) (a .fb) (g .low) (g .row .order) (g .column) (g
+          .below) (l .t)
           (in-turn c) (r .sums) (F c) (rw (turn c) (let b = room c in omega (arith, long c))) (r .long));
-      small = bounded-set (l .v) (J c) (r .small) (rw (turn c) at (recovered-sums-small (a .col .now) (a .fa) (a .i) (a .fb) (g .low)
-          (g .row .order) (g .column) (g .below) (l .t) (in-turn c) (r .sums) (bounded-le (omega arith) (l .inv .3)) (within-le (omega arith) h)));
+      small =
+          bounded-set (l .v) (J c) (r .small) (rw (turn c) at (recovered-sums-small (a .col .now) (a .fa) (a .i) (a .fb) (g
+          .low)
+          (g .row .order) (g .column) (g .below) (l .t) (in-turn c) (r .sums) (bounded-le (omega arith) (l .inv .3)) (within-le
+          (omega arith) h)));
       long = length-set (l .v) (J c) _ ∙ r .long;
     }
 
@@ -357,7 +389,8 @@ loop-again c =
       (let a = l .inv .0 in omega arith),
       (let h = i .loop-test .taken in omega arith),
       rw (value (e .before .before), z)
-          (rw (turn i) at (run-next _ (undoneTurn (s .args .fb) (s .args .i)) (s .args .from) (l .t) (s .args .x .now) (l .inv .0) (l .inv .2))),
+          (rw (turn i) at (run-next _ (undoneTurn (s .args .fb) (s .args .i)) (s .args .from) (l .t) (s .args .x .now) (l .inv
+          .0) (l .inv .2))),
       rw (value (e .before .before), z) (bounded-set (l .x) (P i) (l .inv .3) (held e)),
       rw (value (e .before .before), z, sum-is c) (next i (held e)),
       next-at i,

@@ -1,6 +1,6 @@
 -- One run of entries is all of them (`upper-entries`).
 use borrow.Author.Needs.{needs}
-use mathlib.Core.Path.{_≡_, sym, ap, _∙_}
+use mathlib.Core.Path.{_≡_, sym, _∙_}
 use Prim.Native.Nat.{suc, _+_, _-_, _*_}
 use native.Mathlib.Nat.{add-zero}
 use native.Mathlib.Omega.{arith}
@@ -13,9 +13,9 @@ use Rattle.whole.specs.Machine.{reads, back, within-le, within-*, within-pos, s
 use Rattle.whole.specs.Sum.{sum}
 use Rattle.rules.specs.Numbers.{unit, at}
 use Rattle.factor.specs.Layouts.{rowOf}
-use Rattle.joint.specs.Sums.{Wide, entriesSum, mostColumn, right-wide}
-use Rattle.joint.specs.Elements.{signAt, diagonalOf, band-at, diagonal-small}
-use Rattle.rows.specs.Triangles.{totalOf, upper-left, upper-right, upper-entries}
+use Rattle.joint.specs.Sums.{Wide, entriesSum, right-wide}
+use Rattle.joint.specs.Elements.{signAt, diagonalOf, band-at}
+use Rattle.rows.specs.Triangles.{upper-left, upper-right, upper-entries}
 use Rattle.rows.specs.TrianglesUndone.{mostOwn}
 use Rattle.rows.proofs.undone.upper_total.Statement.{statement}
 use Rattle.rows.proofs.undone.upper_total.Tie as tie
@@ -66,7 +66,8 @@ own-is c =
 
 own-small : (s : tie.Start) → Within mostOwn (O s)
 own-small s =
-    within-* {A = unit} (within-le {A = unit * 1} (omega arith) (within-* (within-pos unit) (sign-within (s .pre .0 .0 .sign (s .args .j) (s .pre .0 .1)))))
+    within-* {A = unit} (within-le {A = unit * 1} (omega arith) (within-* (within-pos unit) (sign-within (s .pre .0 .0 .sign (s
+    .args .j) (s .pre .0 .1)))))
     (s .pre .0 .2 .small (s .args .j))
 
 add-sum-starting : tie.Need-add-sum-starting
@@ -81,7 +82,8 @@ many : (s : tie.Start) → s .args .f .order - suc (s .args .j) ≡ s .args .m
 many s = let e = s .pre .3 in omega arith
 
 entries : (s : tie.Start) →
-    sum (s .args .m) (λ t. at (s .args .row .now) (s .args .p + t) *ℤ at (s .args .v .now) (s .args .j + 1 + t)) ≡ entriesSum (s .args .row .now) (rowOf (s .args .f) (s .args .j)) (s .args .j) (at (s .args .v .now))
+    sum (s .args .m) (λ t. at (s .args .row .now) (s .args .p + t) *ℤ at (s .args .v .now) (s .args .j + 1 + t)) ≡ entriesSum (s
+    .args .row .now) (rowOf (s .args .f) (s .args .j)) (s .args .j) (at (s .args .v .now))
 entries s = upper-entries (s .args .f) (s .args .j) (s .pre .1) (s .pre .2) (sym (many s)) (s .args .row .now) (s .args .v .now)
 
 either-way : (o a : ℤ) → o +ℤ a ≡ a +ℤ o
@@ -96,4 +98,5 @@ returns c =
 pub upper-total-spec : {M : Type 1} → statement M
 upper-total-spec =
     tie.close
-    (tie.spec sign-at-requires mul-with-diagonal element-copy-out-with-diagonal with-diagonal-requires add-sum-starting sum-starting-requires returns)
+    (tie.spec sign-at-requires mul-with-diagonal element-copy-out-with-diagonal with-diagonal-requires add-sum-starting
+    sum-starting-requires returns)
