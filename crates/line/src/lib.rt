@@ -3,22 +3,15 @@
 ghost use Rattle.rules.specs.Calls.{Gives, line, forwardCall, inverseCall, allowanceCall};
 ghost use Rattle.factor.specs.Tasks.{callOf};
 ghost use Rattle.factor.specs.CallAnswers.{NoneLent};
-use block::run_block;
 use factor::lengths::check_lengths;
 use factor::run::Run;
 use factor::run::Task;
 use factor::run::nearest;
+use linerun::block::run_block;
 use rules::Answer;
 use rules::Rule;
 use sheet::factors::count_at;
 use sheet::factors::starts_of;
-
-mod steps; // one element; what a factor does to allowances
-mod kinds; // a loop for each kind
-mod stages; // one stage: the factor at a place of the sheet
-mod runs; // all stages of a sheet
-mod fours; // blocks of four
-pub mod block; // a run of one block over a checked sheet
 
 // 1 to 9, then 10 for the input and for the output, then the run.
 fn call(run: Run, s: &[i32], x: &[i32], y: &mut [i32]) -> Answer

@@ -3,22 +3,16 @@
 ghost use Rattle.rules.specs.Calls.{Gives, joint, forwardCall, inverseCall, allowanceCall};
 ghost use Rattle.factor.specs.Tasks.{callOf};
 ghost use Rattle.factor.specs.CallAnswers.{NoneLent};
-use block::run_block;
 use factor::lengths::check_lengths;
 use factor::run::Run;
 use factor::run::Task;
 use factor::run::nearest;
+use rectanglerun::block::run_block;
 use rules::Answer;
 use rules::Rule;
 use sheet::check_pair;
 use sheet::factors::count_at;
 use sheet::factors::starts_of;
-
-mod steps; // a pair of factors with weights
-mod moves; // a pair of permutations
-mod stages; // one stage: the factors at two places of the sheets
-mod runs; // all stages of two sheets
-pub mod block; // a run of one block over two checked sheets
 
 // 1 to 9 and 12, then 10 for the input and for the output, then the run.
 fn call(run: Run, col: &[i32], row: &[i32], x: &[i32], y: &mut [i32]) -> Answer

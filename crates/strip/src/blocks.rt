@@ -70,7 +70,7 @@ pub fn run_block(
         (callOf run (planOf shape (now (col .entry)) (now (row .entry))) (now (x .entry)) (now (y .entry))) ⌝ }
 {
     match shape {
-        Shape::Line => return line::block::run_block(run, col, columns, x, y),
-        Shape::Joint => return rectangle::block::run_block(run, col, row, columns, rows, x, y),
+        Shape::Line => return linerun::block::run_block(run, col, columns, x, y),
+        Shape::Joint => return rectanglerun::block::run_block(run, col, row, columns, rows, x, y),
     }
 }

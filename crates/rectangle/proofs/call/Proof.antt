@@ -7,7 +7,7 @@ use Rattle.rules.specs.declared.Answer.{Answer}
 use Rattle.rules.specs.Calls.{Plan, joint}
 use Rattle.laws.specs.Accepted.{order-counts}
 use Rattle.factor.specs.CallAnswers.{lengthsOf, sheets-refuse, lengths-refuse, run-is-left, lengths-fine}
-use Rattle.rectangle.specs.Runs.{Matched, matched, size-most}
+use Rattle.rectanglerun.specs.Runs.{Matched, matched, size-most}
 use Rattle.rectangle.proofs.call.Statement.{statement}
 use Rattle.rectangle.proofs.call.Tie as tie
 

@@ -3,7 +3,7 @@ use borrow.Author.Needs.{needs}
 use mathlib.Core.Path.{sym, _∙_}
 use Rattle.rules.specs.Calls.{line, joint}
 use Rattle.laws.specs.Accepted.{accepted-read}
-use Rattle.rectangle.specs.Runs.{matched}
+use Rattle.rectanglerun.specs.Runs.{matched}
 use Rattle.strip.specs.Plans.{planOf, rowSheet, lent-block, block-runs}
 use Rattle.strip.proofs.blocks.run_block.Statement.{statement}
 use Rattle.strip.proofs.blocks.run_block.Tie as tie

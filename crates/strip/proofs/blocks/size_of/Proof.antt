@@ -4,7 +4,7 @@ use native.Mathlib.Omega.{arith}
 use Rattle.rules.specs.Answers.{checked, pairChecked}
 use Rattle.rules.specs.Calls.{line, joint}
 use Rattle.laws.specs.Accepted.{accepted-read, order-counts}
-use Rattle.rectangle.specs.Runs.{matched, size-most}
+use Rattle.rectanglerun.specs.Runs.{matched, size-most}
 use Rattle.strip.specs.Plans.{planOf}
 use borrow.Author.Needs.{needs}
 use Rattle.strip.proofs.blocks.size_of.Statement.{statement}

@@ -1,0 +1,186 @@
+-- The block is as t turns leave it, and in bound (`Filled`); p is where the next row starts.
+use borrow.Author.Needs.{needs}
+use borrow.Author.Tests.{not-true, not-false}
+use mathlib.Core.List.{List}
+use mathlib.Core.Path.{_≡_, refl, sym, _∙_}
+use Prim.Native.Nat.{ℕ, _+_, _-_, _≤_, _<_}
+use native.Mathlib.Numerals.{add-one}
+use native.Mathlib.Omega.{arith}
+use lib.IntN.{ℤ}
+use lib.ListN.{length}
+use mir.Syntax.{w32, w64}
+use mir.Val.{toZ, ofZ}
+use Rattle.whole.specs.Diff.{Within}
+use Rattle.whole.specs.Machine.{fits, reads, back}
+use Rattle.rules.specs.Numbers.{bound}
+use Rattle.rules.specs.Sheets.{triangle}
+use Rattle.factor.specs.SumBounds.{test-no, test-yes}
+use Rattle.factor.specs.InPlace.{inPlace}
+use Rattle.factor.specs.UndoingOrder.{nthUndone}
+use Rattle.linerun.specs.Steps.{roundedSum, undoneAt, undoneInPlace}
+use Rattle.linerun.specs.LineBounds.{rounded-sum-small}
+use Rattle.linerun.specs.Filling.{Filling, Filled, filled-more, filled-stops, filled-done, undone-fills}
+use Rattle.linerun.specs.RowsByKind.{lower-at, lower-left}
+use Rattle.linerun.proofs.kinds.lower_back.Statement.{statement}
+use Rattle.linerun.proofs.kinds.lower_back.Tie as tie
+
+abbrev Inv-loop : tie.InvT-loop
+Inv-loop rule sheet f y n x₀ p₀ t₀ x p t =
+    (t ≤ n) × (n ≡ f .order) × (p ≡ f .entries + triangle t) × Filled (λ k. undoneInPlace rule sheet f k y) t x
+
+abbrev μ-loop : tie.MeasureT-loop
+μ-loop rule sheet f y n x₀ p₀ t₀ x p t = n - t
+
+-- the block after t turns, the element of turn t, and what it was
+abbrev W : tie.Start Inv-loop μ-loop → ℕ → List ℤ
+W s t = undoneInPlace (s .args .rule) (s .args .sheet .now) (s .args .f) t (s .args .y)
+
+abbrev P : tie.Start Inv-loop μ-loop → ℕ → ℕ
+P s t = t
+
+abbrev F : tie.Start Inv-loop μ-loop → ℕ → ℤ
+F s t = undoneAt (s .args .rule) (s .args .sheet .now) (s .args .f) (W s t) (P s t)
+
+len : (s : tie.Start Inv-loop μ-loop) → length (s .args .y) ≡ 16
+len s = search needs
+
+fills : (s : tie.Start Inv-loop μ-loop) → Filling (s .args .f .order) (W s) (P s) (F s)
+unfolding nthUndone
+fills s = undone-fills (s .args .rule) (s .pre .0) (s .args .y) (len s) (s .pre .2) (P s) (λ t l. rw (s .pre .1))
+
+loop-holds : tie.Need-loop-holds Inv-loop μ-loop
+unfolding inPlace triangle
+loop-holds c = (omega arith, refl, omega arith, record { is = refl; small = c .pre .3 })
+
+-- the turn is one of the order's
+turn : (c : tie.In-loop Inv-loop μ-loop) → c .before .loop .t < c .before .before .args .f .order
+turn c = let l = c .loop-test .taken in omega (arith, c .before .loop .inv .1)
+
+left-sum-requires : tie.Need-left-sum-requires Inv-loop μ-loop
+left-sum-requires c κs =
+    let i = c .before .before in
+    let l = i .before in
+    let s = l .before in (
+      (s .pre .0, (turn i), l .loop .inv .3 .small),
+      s .pre .1,
+      l .loop .inv .2 ∙ sym
+          (lower-at (s .args .f) (l .loop .t) (s .pre .1)),
+    )
+
+-- the rounded sum, as it was read
+sum :
+    (c : tie.After-left-sum Inv-loop μ-loop) →
+    let i = c .before .before .before in
+    let l = i .before in
+    let s = l .before in
+    toZ w64 (ofZ w64 (c .left-sum .result)) ≡ roundedSum (s .args .rule) (s .args .sheet .now) (s .args .f) (l .loop .x)
+    (i .before .loop .t)
+sum c = back w64 _ (c .left-sum .ok) ∙ c .left-sum .ensures
+
+undone-at-requires : tie.Need-undone-at-requires Inv-loop μ-loop
+undone-at-requires c κs =
+    let i = c .before .before .before in
+    let l = i .before in
+    let s = l .before in (
+      (s .pre .0, (turn i), l .loop .inv .3 .small),
+      rw (sum c)
+          (rounded-sum-small (s .pre .0) (i .before .loop .t) (turn i) (s .args .rule) (l .loop .inv .3 .small)),
+    )
+
+value :
+    (c : tie.After-undone-at Inv-loop μ-loop) →
+    let i = c .before .before .before .before in
+    let l = i .before in
+    let s = l .before in
+    toZ w64 (ofZ w64 (c .undone-at .result)) ≡ F s (l .loop .t)
+unfolding undoneAt
+value c =
+    let i = c .before .before .before .before in
+    let l = i .before in
+    let s = l .before in
+    back w64 _ (c .undone-at .ok) ∙ c .undone-at .ensures ∙ rw (sum (c .before), l .loop .inv .3 .is)
+
+is-within-requires : tie.Need-is-within-requires Inv-loop μ-loop
+is-within-requires c κs = tt
+
+returns : tie.Need-returns Inv-loop μ-loop
+returns c =
+    let i = c .before .before .before .before .before .before in
+    let l = i .before in
+    let s = l .before in
+    filled-stops (fills s) (l .loop .t) (turn i)
+    (test-no bound (value (c .before .before)) (c .before .is-within .ensures) (not-true _ (c .if1 .taken)))
+
+held :
+    (c : tie.Else1 Inv-loop μ-loop) →
+    let i = c .before .before .before .before .before .before in
+    let l = i .before in
+    let s = l .before in
+    Within bound (F s (l .loop .t))
+held c = test-yes bound (value (c .before .before)) (c .before .is-within .ensures) (not-false _ (c .if1 .left))
+
+cast-x : tie.Need-cast-x Inv-loop μ-loop
+cast-x c = rw (value (c .before .before)) (fits (held c) tt)
+
+mul-x : tie.Need-mul-x Inv-loop μ-loop
+mul-x c =
+    let i = c .before .before .before .before .before .before in
+    let l = i .before in
+    let s = l .before in
+    let h = turn i in
+    let o = s .pre .0 .order in
+    omega arith
+
+array-set-from-x : tie.Need-array-set-from-x Inv-loop μ-loop
+array-set-from-x c =
+    let i = c .before .before .before .before .before .before in
+    let l = i .before in
+    let s = l .before in
+    let h = turn i in
+    let o = s .pre .0 .order in
+    omega arith
+
+add-p : tie.Need-add-p Inv-loop μ-loop
+add-p c =
+    let i = c .before .before .before .before .before .before in
+    let l = i .before in
+    let s = l .before in
+    let r = s .pre .0 .row (l .loop .t) (turn i) .room in
+    let h = turn i in
+    omega (
+      arith,
+      l .loop .inv .1,
+      l .loop .inv .2,
+      lower-at (s .args .f) (l .loop .t) (s .pre .1),
+      lower-left (s .args .f)
+          (l .loop .t) (s .pre .1),
+    )
+
+add-t : tie.Need-add-t Inv-loop μ-loop
+add-t c = omega arith
+
+loop-less : tie.Need-loop-less Inv-loop μ-loop
+loop-less c = omega arith
+
+loop-again : tie.Need-loop-again Inv-loop μ-loop
+unfolding triangle
+loop-again c =
+    let i = c .before .before .before .before .before .before in
+    let l = i .before in
+    let s = l .before in (
+      omega arith,
+      l .loop .inv .1,
+      let e : triangle (l .loop .t + 1) ≡ triangle (l .loop .t) + l .loop .t = rw add-one in omega (arith, l .loop .inv .2),
+      rw (value (c .before .before), reads w32 (held c) tt) (filled-more (fills s) (turn i) (l .loop .inv .3) (held c)),
+    )
+
+returns-2 : tie.Need-returns-2 Inv-loop μ-loop
+returns-2 c =
+    let l = c .before in
+    filled-done (fills (l .before)) (omega (arith, l .loop .inv .1)) (l .loop .inv .3)
+
+pub lower-back-spec : {M : Type 1} → statement M
+lower-back-spec =
+    tie.close
+    (tie.spec Inv-loop μ-loop loop-holds left-sum-requires undone-at-requires is-within-requires returns cast-x mul-x
+    array-set-from-x add-p add-t loop-less loop-again returns-2)

@@ -1,0 +1,108 @@
+-- The sum of magnitudes is small (`magnitudes-small`), and so is what is added to the allowance.
+use mathlib.Core.Bool.{Bool, true, false, cond}
+use mathlib.Core.Path.{_≡_, _∙_}
+use Prim.Native.Nat.{_+_}
+use native.Mathlib.Omega.{arith}
+use lib.IntN.{ℤ, pos, _+ℤ_}
+use lib.Signed.{shrZ}
+use mir.Syntax.{w32, w64}
+use mir.Val.{toZ, ofZ}
+use Rattle.whole.specs.Diff.{Within}
+use Rattle.whole.specs.Machine.{fits, reads, back, within-+, within-le, within-pos, within-shr}
+use Rattle.rules.specs.declared.Rule.{Rule}
+use Rattle.rules.specs.Stages.{ceiling, share}
+use Rattle.factor.specs.Layouts.{rowOf, along}
+use Rattle.factor.specs.Magnitudes.{magnitudeAt, whole, row-entries, magnitudes-small}
+use Rattle.factor.specs.Rounding.{share-is}
+use Rattle.linerun.specs.Steps.{allowedAt}
+use Rattle.linerun.specs.LineBounds.{mostSum, row-of-16}
+use borrow.Author.Needs.{needs}
+use Rattle.linerun.proofs.steps.allowed_at.Statement.{statement}
+use Rattle.linerun.proofs.steps.allowed_at.Tie as tie
+
+row-of-requires : tie.Need-row-of-requires
+row-of-requires c κs = let h = c .pre .0 in let r = h .row (c .args .m) (c .pre .1) .room in (c .pre .1, h .order, omega arith)
+
+add-many : tie.Need-add-many
+add-many c =
+    let s = c .before .before in let h = row-of-16 (s .pre .0) (s .args .m) (s .pre .1) in
+    rw (c .before .row-of .ensures) (let a = h .left in let b = h .right in omega arith)
+
+mul-raised : tie.Need-mul-raised
+mul-raised c = search needs
+
+element-copy-out-raised : tie.Need-element-copy-out-raised
+element-copy-out-raised c = search needs
+
+magnitude-sum-at-requires : tie.Need-magnitude-sum-at-requires
+magnitude-sum-at-requires c κs =
+    let s = c .before .before .before in
+    rw (c .before .before .row-of .ensures) (row-of-16 (s .pre .0) (s .args .m) (s .pre .1), s .pre .2)
+
+-- the sum of magnitudes, its quotient upward, and what the rounding adds
+abbrev A : tie.Start → ℤ
+A s = along (magnitudeAt (s .args .sheet .now)) (rowOf (s .args .f) (s .args .m)) (s .args .m) (s .args .b .now)
+
+abbrev Q : tie.Start → ℤ
+Q s = shrZ (A s +ℤ pos 4095) 4096
+
+abbrev W : tie.Start → Bool
+W s =
+    whole (s .args .sheet .now) (rowOf (s .args .f) (s .args .m) .at)
+    (rowOf (s .args .f) (s .args .m) .left + rowOf (s .args .f) (s .args .m) .right)
+
+abbrev H : tie.Start → ℤ
+H s = cond (W s) (pos 0) (pos (share (s .args .rule)))
+
+magnitudes : (c : tie.After-magnitude-sum-at) →
+    toZ w64 (ofZ w64 (c .magnitude-sum-at .result)) ≡ A (c .before .before .before .before)
+magnitudes c =
+    back w64 _ (c .magnitude-sum-at .ok) ∙ c .magnitude-sum-at .ensures ∙ rw (c .before .before .before .row-of .ensures)
+
+small : (s : tie.Start) → Within mostSum (A s)
+small s = magnitudes-small (row-of-16 (s .pre .0) (s .args .m) (s .pre .1)) (s .pre .2)
+
+quotient-small : (s : tie.Start) → Within (mostSum + 4095) (Q s)
+quotient-small s = within-shr 4096 (within-+ (small s) (within-pos 4095))
+
+share-small : (rule : Rule) (b : Bool) → Within 2048 (cond b (pos 0) (pos (share rule)))
+share-small rule true = within-le (omega arith) (within-pos 0)
+share-small rule false = rw (share-is rule) (within-pos 2048)
+
+quotient : (c : tie.After-raise-line) → toZ w64 (ofZ w64 (c .raise-line .result)) ≡ Q (c .before .before .before .before .before)
+quotient c = back w64 _ (c .raise-line .ok) ∙ c .raise-line .ensures ∙ rw (magnitudes (c .before))
+
+added : (c : tie.After-row-share) →
+    toZ w64 (ofZ w64 (c .row-share .result)) ≡ H (c .before .before .before .before .before .before)
+added c = back w64 _ (c .row-share .ok) ∙ c .row-share .ensures ∙ rw (c .before .before .before .before .before .row-of .ensures)
+
+raise-line-requires : tie.Need-raise-line-requires
+raise-line-requires c κs =
+    let s = c .before .before .before .before in
+    rw (magnitudes c) (fits (within-+ (small s) (within-pos 4095)) tt, fits (quotient-small s) tt)
+
+row-share-requires : tie.Need-row-share-requires
+row-share-requires c κs =
+    let s = c .before .before .before .before .before in
+    rw (c .before .before .before .before .row-of .ensures) (row-entries (row-of-16 (s .pre .0) (s .args .m) (s .pre .1)))
+
+raised-requires : tie.Need-raised-requires
+raised-requires c κs =
+    let s = c .before .before .before .before .before .before in
+    let b = s .pre .2 .small (s .args .m) in
+    let h : Within 2048 (H s) = share-small (s .args .rule) (W s) in
+    rw (quotient (c .before), added c, reads w32 b tt)
+    (fits b tt, fits (within-+ b (quotient-small s)) tt, fits (within-+ (within-+ b (quotient-small s)) h) tt)
+
+returns : tie.Need-returns
+unfolding allowedAt ceiling
+returns c =
+    let s = c .before .before .before .before .before .before .before in
+    let b = s .pre .2 .small (s .args .m) in
+    back w64 _ (c .raised .ok) ∙ c .raised .ensures ∙ rw (quotient (c .before .before), added (c .before), reads w32 b tt)
+
+pub allowed-at-spec : {M : Type 1} → statement M
+allowed-at-spec =
+    tie.close
+    (tie.spec row-of-requires add-many mul-raised element-copy-out-raised magnitude-sum-at-requires raise-line-requires
+    row-share-requires raised-requires returns)

@@ -1,0 +1,44 @@
+-- The sign, the number and the rounded sum are small, and so is what is made of them.
+use mathlib.Core.Path.{_∙_}
+use native.Mathlib.Omega.{arith}
+use mir.Facts.{toZ-ofZ}
+use mir.Syntax.{w32, w64}
+use Rattle.whole.specs.Machine.{fits, reads, back, within--, sign-within, within-sign}
+use Rattle.linerun.proofs.steps.undone_at.Statement.{statement}
+use Rattle.linerun.proofs.steps.undone_at.Tie as tie
+
+add-undone : tie.Need-add-undone
+add-undone c = let r = c .pre .0 .0 .there (c .args .m) (c .pre .0 .1) in omega arith
+
+mul-undone : tie.Need-mul-undone
+mul-undone c = let r = c .pre .0 .0 .there (c .args .m) (c .pre .0 .1) in omega arith
+
+shared-slice-copy-out-undone : tie.Need-shared-slice-copy-out-undone
+shared-slice-copy-out-undone c = let r = c .pre .0 .0 .there (c .args .m) (c .pre .0 .1) in omega arith
+
+mul-undone-2 : tie.Need-mul-undone-2
+mul-undone-2 c = let r = c .before .pre .0 .1 in let o = c .before .pre .0 .0 .order in omega arith
+
+element-copy-out-undone : tie.Need-element-copy-out-undone
+element-copy-out-undone c = let r = c .before .pre .0 .1 in let o = c .before .pre .0 .0 .order in omega arith
+
+undone-requires : tie.Need-undone-requires
+undone-requires c κs =
+    let s = c .before .before in
+    let d = s .pre .0 .0 .sign (s .args .m) (s .pre .0 .1) in
+    let x = s .pre .0 .2 .small (s .args .m) in
+    let q = s .pre .1 in
+    rw (toZ-ofZ (s .fits .q), reads w32 (sign-within d) tt, reads w32 x tt)
+    (d, fits x tt, fits (within-- x q) tt, fits (within-sign d (within-- x q)) tt)
+
+returns : tie.Need-returns
+returns c =
+    let s = c .before .before .before in
+    let d = s .pre .0 .0 .sign (s .args .m) (s .pre .0 .1) in
+    let x = s .pre .0 .2 .small (s .args .m) in
+    back w64 _ (c .undone .ok) ∙ c .undone .ensures ∙ rw (toZ-ofZ (s .fits .q), reads w32 (sign-within d) tt, reads w32 x tt)
+
+pub undone-at-spec : {M : Type 1} → statement M
+undone-at-spec =
+    tie.close
+    (tie.spec add-undone mul-undone shared-slice-copy-out-undone mul-undone-2 element-copy-out-undone undone-requires returns)

@@ -1,0 +1,7 @@
+pub mod Steps
+pub mod LineBounds
+pub mod Filling
+pub mod RowsByKind
+pub mod StagesAgree
+pub mod Runs
+pub mod Fours

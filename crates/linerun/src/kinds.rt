@@ -1,0 +1,259 @@
+// A factor with weights, applied and undone: a loop for each kind, so that its kind is looked at once. The block goes in and
+// comes back by value. Undone in place, a loop stops at the first number beyond the bound: later sums could leave 64 bits.
+ghost use mathlib.Core.Logic.{_≢_};
+ghost use mathlib.Core.Path.{_≡_};
+ghost use Prim.Native.Nat.{_<_};
+ghost use Rattle.rules.specs.Numbers.{bound};
+ghost use Rattle.rules.specs.Stages.{fill};
+ghost use Rattle.factor.specs.Layouts.{rowOf};
+ghost use Rattle.factor.specs.SumBounds.{Bounded};
+ghost use Rattle.factor.specs.LayoutInSheet.{InSheet};
+ghost use Rattle.factor.specs.Steps.{Step};
+ghost use Rattle.linerun.specs.Steps.{ElementGiven, roundedSum, appliedAt, undoneInPlace};
+use crate::steps::Passed;
+use crate::steps::applied_at;
+use crate::steps::undone_at;
+use factor::Layout;
+use factor::before_lower;
+use factor::nth_undone;
+use factor::rounding::is_within;
+use factor::rounding::round_line;
+use factor::row_of;
+use factor::run::Outcome;
+use factor::sums::products_sum;
+use factor::sums::products_sum_from;
+use factor::sums::row_sum;
+use rules::Block;
+use rules::Kind;
+use rules::Rule;
+
+// The rounded sum of row m of a lower factor, whose entries start at place p.
+fn left_sum(rule: Rule, sheet: &[i32], f: Layout, p: usize, m: usize, x: &[i32; 16]) -> i64
+    requires { ⌜ ElementGiven (now sheet) f m (now x) × (f .kind ≡ Kind.Lower) × (p ≡ rowOf f m .at) ⌝ }
+    ensures { λ r. ⌜ r ≡ roundedSum rule (now (sheet .entry)) f (now (x .entry)) m ⌝ }
+{
+    round_line(rule, products_sum(&sheet[p..], x, m))
+}
+
+// The rounded sum of row m of an upper factor, whose entries start at place p.
+fn right_sum(rule: Rule, sheet: &[i32], f: Layout, p: usize, m: usize, x: &[i32; 16]) -> i64
+    requires { ⌜ ElementGiven (now sheet) f m (now x) × (f .kind ≡ Kind.Upper) × (p ≡ rowOf f m .at) ⌝ }
+    ensures { λ r. ⌜ r ≡ roundedSum rule (now (sheet .entry)) f (now (x .entry)) m ⌝ }
+{
+    let n = f.order;
+    round_line(rule, products_sum_from(&sheet[p..], x, m + 1, n - 1 - m))
+}
+
+// The rounded sum of row m of a factor with a single row: the others have no entries.
+fn single_sum(rule: Rule, sheet: &[i32], f: Layout, m: usize, x: &[i32; 16]) -> i64
+    requires { ⌜ ElementGiven (now sheet) f m (now x) × (f .kind ≡ Kind.Single) ⌝ }
+    ensures { λ r. ⌜ r ≡ roundedSum rule (now (sheet .entry)) f (now (x .entry)) m ⌝ }
+{
+    if m != f.row {
+        return 0;
+    }
+    round_line(rule, row_sum(sheet, row_of(f, m), m, x))
+}
+
+// A lower factor, applied: every element from the old block.
+pub fn lower(rule: Rule, sheet: &[i32], f: Layout, x: [i32; 16]) -> Passed
+    requires { ⌜ InSheet (now sheet) f × (f .kind ≡ Kind.Lower) × Bounded bound x ⌝ }
+    ensures { λ r. ⌜ Step bound (f .order) (fill (f .order) (appliedAt rule (now (sheet .entry)) f x) x) (r .outcome .ok)
+        (r .block) ⌝ }
+{
+    let n = f.order;
+    let mut y = x;
+    let mut p = f.entries;
+    for m in 0..n {
+        let z = applied_at(sheet, f, m, &x, left_sum(rule, sheet, f, p, m, &x));
+        if !is_within(z, Block::SAMPLE) {
+            return Passed {
+                block: x,
+                outcome: Outcome {
+                    ok: false,
+                    stage: 1,
+                },
+            };
+        }
+        y[m] = z as i32;
+        p = p + m;
+    }
+    Passed {
+        block: y,
+        outcome: Outcome { ok: true, stage: 0 },
+    }
+}
+
+// An upper factor, applied: every element from the old block.
+pub fn upper(rule: Rule, sheet: &[i32], f: Layout, x: [i32; 16]) -> Passed
+    requires { ⌜ InSheet (now sheet) f × (f .kind ≡ Kind.Upper) × Bounded bound x ⌝ }
+    ensures { λ r. ⌜ Step bound (f .order) (fill (f .order) (appliedAt rule (now (sheet .entry)) f x) x) (r .outcome .ok)
+        (r .block) ⌝ }
+{
+    let n = f.order;
+    let mut y = x;
+    let mut p = f.entries;
+    for m in 0..n {
+        let z = applied_at(sheet, f, m, &x, right_sum(rule, sheet, f, p, m, &x));
+        if !is_within(z, Block::SAMPLE) {
+            return Passed {
+                block: x,
+                outcome: Outcome {
+                    ok: false,
+                    stage: 1,
+                },
+            };
+        }
+        y[m] = z as i32;
+        p = p + (n - 1 - m);
+    }
+    Passed {
+        block: y,
+        outcome: Outcome { ok: true, stage: 0 },
+    }
+}
+
+// A factor with a single row, applied: every element from the old block.
+pub fn single(rule: Rule, sheet: &[i32], f: Layout, x: [i32; 16]) -> Passed
+    requires { ⌜ InSheet (now sheet) f × (f .kind ≡ Kind.Single) × Bounded bound x ⌝ }
+    ensures { λ r. ⌜ Step bound (f .order) (fill (f .order) (appliedAt rule (now (sheet .entry)) f x) x) (r .outcome .ok)
+        (r .block) ⌝ }
+{
+    let n = f.order;
+    let mut y = x;
+    for m in 0..n {
+        let z = applied_at(sheet, f, m, &x, single_sum(rule, sheet, f, m, &x));
+        if !is_within(z, Block::SAMPLE) {
+            return Passed {
+                block: x,
+                outcome: Outcome {
+                    ok: false,
+                    stage: 1,
+                },
+            };
+        }
+        y[m] = z as i32;
+    }
+    Passed {
+        block: y,
+        outcome: Outcome { ok: true, stage: 0 },
+    }
+}
+
+// A lower factor, undone.
+pub fn lower_back(rule: Rule, sheet: &[i32], f: Layout, y: [i32; 16]) -> Passed
+    requires { ⌜ InSheet (now sheet) f × (f .kind ≡ Kind.Lower) × (f .row < f .order) × Bounded bound y ⌝ }
+    ensures { λ r. ⌜ Step bound (f .order) (undoneInPlace rule (now (sheet .entry)) f (f .order) y) (r .outcome .ok)
+        (r .block) ⌝ }
+{
+    let n = f.order;
+    let mut x = y;
+    let mut p = f.entries;
+    for t in 0..n {
+        let m = t;
+        let z = undone_at(sheet, f, m, &x, left_sum(rule, sheet, f, p, m, &x));
+        if !is_within(z, Block::SAMPLE) {
+            return Passed {
+                block: y,
+                outcome: Outcome {
+                    ok: false,
+                    stage: 1,
+                },
+            };
+        }
+        x[m] = z as i32;
+        p = p + m;
+    }
+    Passed {
+        block: x,
+        outcome: Outcome { ok: true, stage: 0 },
+    }
+}
+
+// An upper factor, undone.
+pub fn upper_back(rule: Rule, sheet: &[i32], f: Layout, y: [i32; 16]) -> Passed
+    requires { ⌜ InSheet (now sheet) f × (f .kind ≡ Kind.Upper) × (f .row < f .order) × Bounded bound y ⌝ }
+    ensures { λ r. ⌜ Step bound (f .order) (undoneInPlace rule (now (sheet .entry)) f (f .order) y) (r .outcome .ok)
+        (r .block) ⌝ }
+{
+    let n = f.order;
+    let mut x = y;
+    let mut p = f.entries + before_lower(n);
+    for t in 0..n {
+        let m = n - 1 - t;
+        p = p - t;
+        let z = undone_at(sheet, f, m, &x, right_sum(rule, sheet, f, p, m, &x));
+        if !is_within(z, Block::SAMPLE) {
+            return Passed {
+                block: y,
+                outcome: Outcome {
+                    ok: false,
+                    stage: 1,
+                },
+            };
+        }
+        x[m] = z as i32;
+    }
+    Passed {
+        block: x,
+        outcome: Outcome { ok: true, stage: 0 },
+    }
+}
+
+// A factor with a single row, undone.
+pub fn single_back(rule: Rule, sheet: &[i32], f: Layout, y: [i32; 16]) -> Passed
+    requires { ⌜ InSheet (now sheet) f × (f .kind ≡ Kind.Single) × (f .row < f .order) × Bounded bound y ⌝ }
+    ensures { λ r. ⌜ Step bound (f .order) (undoneInPlace rule (now (sheet .entry)) f (f .order) y) (r .outcome .ok)
+        (r .block) ⌝ }
+{
+    let n = f.order;
+    let mut x = y;
+    for t in 0..n {
+        let m = nth_undone(f, t);
+        let z = undone_at(sheet, f, m, &x, single_sum(rule, sheet, f, m, &x));
+        if !is_within(z, Block::SAMPLE) {
+            return Passed {
+                block: y,
+                outcome: Outcome {
+                    ok: false,
+                    stage: 1,
+                },
+            };
+        }
+        x[m] = z as i32;
+    }
+    Passed {
+        block: x,
+        outcome: Outcome { ok: true, stage: 0 },
+    }
+}
+
+// A factor with weights, applied. A permutation has none, and does not come here.
+pub fn apply_weights(rule: Rule, sheet: &[i32], f: Layout, x: [i32; 16]) -> Passed
+    requires { ⌜ InSheet (now sheet) f × (f .kind ≢ Kind.Permutation) × Bounded bound x ⌝ }
+    ensures { λ r. ⌜ Step bound (f .order) (fill (f .order) (appliedAt rule (now (sheet .entry)) f x) x) (r .outcome .ok)
+        (r .block) ⌝ }
+{
+    let kind = f.kind;
+    match kind {
+        Kind::Permutation => return single(rule, sheet, f, x),
+        Kind::Lower => return lower(rule, sheet, f, x),
+        Kind::Upper => return upper(rule, sheet, f, x),
+        Kind::Single => return single(rule, sheet, f, x),
+    }
+}
+
+// A factor with weights, undone. A permutation has none, and does not come here.
+pub fn undo_weights(rule: Rule, sheet: &[i32], f: Layout, y: [i32; 16]) -> Passed
+    requires { ⌜ InSheet (now sheet) f × (f .kind ≢ Kind.Permutation) × (f .row < f .order) × Bounded bound y ⌝ }
+    ensures { λ r. ⌜ Step bound (f .order) (undoneInPlace rule (now (sheet .entry)) f (f .order) y) (r .outcome .ok)
+        (r .block) ⌝ }
+{
+    let kind = f.kind;
+    match kind {
+        Kind::Permutation => return single_back(rule, sheet, f, y),
+        Kind::Lower => return lower_back(rule, sheet, f, y),
+        Kind::Upper => return upper_back(rule, sheet, f, y),
+        Kind::Single => return single_back(rule, sheet, f, y),
+    }
+}

@@ -1,0 +1,119 @@
+// One element of a factor with weights, applied and undone; and what the factor does to allowances.
+ghost use mathlib.Core.Path.{_≡_};
+ghost use mathlib.Core.Bool.{cond};
+ghost use Prim.Native.Nat.{_+_, _<_};
+ghost use lib.IntN.{pos, _+ℤ_, _-ℤ_, _*ℤ_};
+ghost use Rattle.whole.specs.Diff.{Within};
+ghost use Rattle.rules.specs.Numbers.{mostAllowance, at};
+ghost use Rattle.rules.specs.Stages.{share, fill};
+ghost use Rattle.factor.specs.Layouts.{along};
+ghost use Rattle.factor.specs.SumBounds.{Bounded, RowIn};
+ghost use Rattle.factor.specs.LayoutInSheet.{InSheet};
+ghost use Rattle.factor.specs.Magnitudes.{Entries, whole, magnitudeAt};
+ghost use Rattle.factor.specs.Steps.{Step};
+ghost use Rattle.linerun.specs.Steps.{ElementGiven, allowedAt};
+ghost use Rattle.linerun.specs.LineBounds.{mostRounded};
+use factor::Layout;
+use factor::Row;
+use factor::magnitudes::are_whole;
+use factor::magnitudes::magnitudes;
+use factor::rounding::applied;
+use factor::rounding::is_within;
+use factor::rounding::raise_line;
+use factor::rounding::raised;
+use factor::rounding::share_of;
+use factor::rounding::undone;
+use factor::row_of;
+use factor::run::Outcome;
+use factor::sums::row_sum;
+use rules::Block;
+use rules::Rule;
+
+// The block by value, and how it ended: the new block where every number is in bound, else the block as it was.
+pub struct Passed {
+    pub block: [i32; 16],
+    pub outcome: Outcome,
+}
+
+// What element m becomes, by the rounded sum q of its row.
+pub fn applied_at(sheet: &[i32], f: Layout, m: usize, x: &[i32; 16], q: i64) -> i64
+    requires { ⌜ ElementGiven (now sheet) f m (now x) × Within mostRounded q ⌝ }
+    ensures { λ r. ⌜ r ≡ (at (now (sheet .entry)) (f .signs + m) *ℤ at (now (x .entry)) m) +ℤ q ⌝ }
+{
+    let signs = f.signs;
+    applied(sheet[signs + m], x[m], q)
+}
+
+// What element m was, by the rounded sum q of its row.
+pub fn undone_at(sheet: &[i32], f: Layout, m: usize, x: &[i32; 16], q: i64) -> i64
+    requires { ⌜ ElementGiven (now sheet) f m (now x) × Within mostRounded q ⌝ }
+    ensures { λ r. ⌜ r ≡ at (now (sheet .entry)) (f .signs + m) *ℤ (at (now (x .entry)) m -ℤ q) ⌝ }
+{
+    let signs = f.signs;
+    undone(sheet[signs + m], x[m], q)
+}
+
+// What the rounding of a row adds, unless all its entries are multiples of 4096.
+fn row_share(rule: Rule, sheet: &[i32], p: usize, m: usize) -> i64
+    requires { ⌜ Entries (now sheet) p m ⌝ }
+    ensures { λ r. ⌜ r ≡ cond (whole (now (sheet .entry)) p m) (pos 0) (pos (share rule)) ⌝ }
+{
+    if are_whole(sheet, p, m) {
+        return 0;
+    }
+    share_of(rule)
+}
+
+// The sum of the magnitudes of row m, each times the allowance of its column.
+fn magnitude_sum_at(sheet: &[i32], r: Row, m: usize, b: &[i32; 16]) -> i64
+    requires { ⌜ RowIn (now sheet) 16 r m × Bounded mostAllowance (now b) ⌝ }
+    ensures { λ s. ⌜ s ≡ along (magnitudeAt (now (sheet .entry))) r m (now (b .entry)) ⌝ }
+{
+    let at = r.at;
+    let left = r.left;
+    let right = r.right;
+    let a = magnitudes(sheet, at, left + right);
+    row_sum(&a, Row { at: 0, left, right }, m, b)
+}
+
+// What the allowance of element m becomes.
+fn allowed_at(rule: Rule, sheet: &[i32], f: Layout, m: usize, b: &[i32; 16]) -> i64
+    requires { ⌜ InSheet (now sheet) f × (m < f .order) × Bounded mostAllowance (now b) ⌝ }
+    ensures { λ r. ⌜ r ≡ allowedAt rule (now (sheet .entry)) f (now (b .entry)) m ⌝ }
+{
+    let r = row_of(f, m);
+    let at = r.at;
+    let many = r.left + r.right;
+    raised(
+        b[m],
+        raise_line(magnitude_sum_at(sheet, r, m, b)),
+        row_share(rule, sheet, at, many),
+    )
+}
+
+// The allowances after a factor with weights.
+pub fn allow_weights(rule: Rule, sheet: &[i32], f: Layout, b: [i32; 16]) -> Passed
+    requires { ⌜ InSheet (now sheet) f × Bounded mostAllowance b ⌝ }
+    ensures { λ r. ⌜ Step mostAllowance (f .order) (fill (f .order) (allowedAt rule (now (sheet .entry)) f b) b)
+        (r .outcome .ok) (r .block) ⌝ }
+{
+    let n = f.order;
+    let mut c = b;
+    for m in 0..n {
+        let z = allowed_at(rule, sheet, f, m, &b);
+        if !is_within(z, Block::ALLOWANCE) {
+            return Passed {
+                block: b,
+                outcome: Outcome {
+                    ok: false,
+                    stage: 1,
+                },
+            };
+        }
+        c[m] = z as i32;
+    }
+    Passed {
+        block: c,
+        outcome: Outcome { ok: true, stage: 0 },
+    }
+}

@@ -1,0 +1,93 @@
+-- THE ROWS OF A PAIR OF FACTORS WITH WEIGHTS, one in each turn: what the block holds after some of them. Each is as from the
+-- block before all rows (`row-unwritten`, `element-same`).
+use mathlib.Core.Bool.{Bool, true, false}
+use mathlib.Core.List.{List}
+use mathlib.Core.Logic.{_≢_}
+use mathlib.Core.Path.{_≡_, refl, ap, _∙_}
+use Prim.Native.Nat.{ℕ, _+_, _*_, _≤_, _<_}
+use native.Mathlib.Nat.{mul-le-mul}
+use native.Mathlib.Omega.{arith}
+use lib.IntN.{ℤ}
+use lib.ListN.{length}
+use Rattle.rules.specs.declared.Kind.the-variants.{Permutation}
+use Rattle.rules.specs.declared.Rule.{Rule}
+use Rattle.factor.specs.declared.Layout.{Layout}
+use Rattle.factor.specs.declared.run.Task.{Task}
+use Rattle.factor.specs.Tasks.{limitOf}
+use Rattle.factor.specs.SumBounds.{Bounded}
+use Rattle.factor.specs.LayoutInSheet.{InSheet}
+use Rattle.factor.specs.Steps.{Step, step-stops, step-goes}
+use Rattle.factor.specs.InPlace.{inPlace}
+use Rattle.rows.specs.RowsInPlace.{RowDone, elementOf, rowOrder, row-done-same, element-same, row-stopped, row-passed, no-row}
+use Rattle.rectanglerun.specs.UndoingOrder.{nthRow, pairOrder, weightsOf, nth-row-below, pair-order-permutes, pair-order-row}
+use Rattle.rectanglerun.specs.UndoingOrder.{row-unwritten}
+
+-- what is asked of the two factors and of the block
+pub record Weighable (task : Task) (c : List ℤ) (fa : Layout) (r : List ℤ) (fb : Layout) (x : List ℤ) : Type 0 where
+  pub column : InSheet c fa
+  pub row : InSheet r fb
+  pub low1 : fa .row < fa .order
+  pub low2 : fb .row < fb .order
+  pub alike : fa .kind ≡ fb .kind
+  pub weighs : fb .kind ≢ Permutation
+  pub small : Bounded (limitOf task) x
+  pub long : length x ≡ 256
+
+module _ (task : Task) (rule : Rule) (c : List ℤ) (fa : Layout) (r : List ℤ) (fb : Layout) (x : List ℤ) where
+  -- all rows, or a number beyond the bound
+  abbrev pub Weighed : Bool → List ℤ → Type 0
+  Weighed ok y = Step (limitOf task) (fa .order * fb .order) (weightsOf task rule c fa r fb x) ok y × (length y ≡ 256)
+
+  -- the rows of s turns
+  pub record Rows (s : ℕ) (y : List ℤ) : Type 0 where
+    pub block : y ≡ inPlace (elementOf task rule c fa r fb x) (pairOrder task fa fb) (s * fb .order) x
+    pub small : Bounded (limitOf task) y
+    pub long : length y ≡ 256
+
+module _ {task : Task} {c : List ℤ} {fa : Layout} {r : List ℤ} {fb : Layout} {x : List ℤ} (h : Weighable task c fa r fb x) where
+  pub turn-below : {s i : ℕ} → s < fa .order → i ≡ nthRow task fa s → i < fa .order
+  turn-below {s} l e = rw e (nth-row-below fa (h .low1) task s l)
+
+  pub no-rows : {rule : Rule} → Rows task rule c fa r fb x 0 x
+  no-rows = record { block = no-row _ _ _ _; small = h .small; long = h .long }
+
+  -- the row of turn s, made from the block y as it stands
+  module _ {rule : Rule} {s i : ℕ} {y z : List ℤ} {ok : Bool} (l : s < fa .order) (a : Rows task rule c fa r fb x s y)
+      (e : i ≡ nthRow task fa s)
+      (w : RowDone (limitOf task) (elementOf task rule c fa r fb y) (rowOrder task fb i) (fb .order) y z ok) where
+    -- with elements from the block before all rows
+    told : RowDone (limitOf task) (elementOf task rule c fa r fb x) (rowOrder task fb i) (fb .order) y z ok
+    told =
+        row-done-same _ _
+        (λ u g. element-same task rule c fa r fb i u g (λ b. rw e (row-unwritten fa (h .low1) task _ fb s l x (a .block) b)))
+        w
+
+    turns : (u : ℕ) → u < fb .order → pairOrder task fa fb (s * fb .order + u) ≡ rowOrder task fb i u
+    turns u g = pair-order-row task fa fb s u g ∙ rw e
+
+    pub row-more : ok ≡ true → Rows task rule c fa r fb x (s + 1) z
+    row-more t =
+        let p = told .through t in
+        record {
+          block = row-passed _ (pairOrder task fa fb) (fb .order) s (rowOrder task fb i) x turns (a .block) (p .0);
+          small = p .1;
+          long = w .keeps ∙ a .long;
+        }
+
+    pub row-stops : ok ≡ false → Weighed task rule c fa r fb x ok z
+    row-stops t =
+        let room : fa .order * fb .order ≤ length x = omega
+        (arith, mul-le-mul (h .column .order) (h .row .order), h .long) in (
+          rw t
+              (step-stops
+              (row-stopped (pair-order-permutes fa (h .low1) task fb (h .low2)) (limitOf task) _ x room (fa .order) (fb .order) s
+              (rowOrder task fb i) refl l turns (a .block) (told .stopped t))),
+          w .keeps ∙ a .long,
+        )
+
+pub rows-all :
+    {task : Task} {rule : Rule} {c : List ℤ} {fa : Layout} {r : List ℤ} {fb : Layout} {s : ℕ} {x y : List ℤ} → s ≡ fa .order →
+    Rows task rule c fa r fb x s y → Weighed task rule c fa r fb x true y
+rows-all {task} {rule} {c} {fa} {r} {fb} {x} e a =
+    let all = ap (λ (k : ℕ). inPlace (elementOf task rule c fa r fb x) (pairOrder task fa fb) (k * fb .order) x) e in
+    (step-goes (a .block ∙ all) (a .small), a .long)

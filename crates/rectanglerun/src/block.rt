@@ -1,0 +1,42 @@
+// A run of one block over two checked sheets that match: the block lies, row by row, at the front of an array of 256, with 0
+// behind it.
+ghost use mathlib.Core.Path.{_≡_};
+ghost use lib.ListN.{length};
+ghost use Rattle.rules.specs.Calls.{Gives};
+ghost use Rattle.laws.specs.AnswersInTurn.{ranReply};
+ghost use Rattle.sheet.specs.Starts.{Starts};
+ghost use Rattle.factor.specs.Tasks.{inputsOf, numberOf};
+ghost use Rattle.rectanglerun.specs.Runs.{Matched, sizeOf, jointRan};
+use crate::runs::run_stages;
+use factor::block::copy_front;
+use factor::block::finish;
+use factor::bounds::is_inside;
+use factor::run::Run;
+use rules::Answer;
+
+// 11 or 13, or what the run gives in y. For allowances no numbers are lent: the block is all 0, which is where allowances start.
+pub fn run_block(
+    run: Run,
+    col: &[i32],
+    row: &[i32],
+    columns: &[u16; 32],
+    rows: &[u16; 32],
+    x: &[i32],
+    y: &mut [i32],
+) -> Answer
+    requires { ⌜ Matched (now col) (now row) × Starts (now col) (now columns) × Starts (now row) (now rows)
+        × (length (now x) ≡ inputsOf (run .task) (sizeOf (now col) (now row)))
+        × (length (now y) ≡ sizeOf (now col) (now row)) ⌝ }
+    ensures { λ a. ⌜ Gives a (now (y .exit))
+        (ranReply (numberOf (run .task)) (jointRan run (now (col .entry)) (now (row .entry)) (now (x .entry)))
+        (now (y .entry))) ⌝ }
+{
+    if !is_inside(x) {
+        return Answer::refused(11, 0, 0);
+    }
+    let task = run.task;
+    let mut b = [0i32; 256];
+    copy_front(x, &mut b, x.len());
+    let r = run_stages(run, col, row, columns, rows, &mut b);
+    finish(task, r, &b, y)
+}

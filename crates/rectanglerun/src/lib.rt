@@ -1,0 +1,6 @@
+// A rectangle's block through the stages of two checked sheets.
+mod steps; // a pair of factors with weights
+mod moves; // a pair of permutations
+mod stages; // one stage: the factors at two places of the sheets
+mod runs; // all stages of two sheets
+pub mod block; // a run of one block over two checked sheets

@@ -1,0 +1,45 @@
+// All pairs of factors of two checked sheets that match, one after another, in place on one block.
+ghost use mathlib.Core.Path.{_≡_};
+ghost use lib.ListN.{length};
+ghost use Rattle.sheet.specs.Starts.{Starts};
+ghost use Rattle.factor.specs.PaddedBlocks.{RunEnded};
+ghost use Rattle.factor.specs.SumBounds.{Bounded};
+ghost use Rattle.factor.specs.Tasks.{limitOf};
+ghost use Rattle.rectanglerun.specs.Runs.{Matched, jointRunBy};
+use crate::stages::run_stage;
+use factor::run::Outcome;
+use factor::run::Run;
+use factor::run::nth_start;
+use sheet::factors::count_at;
+
+// First to last, or, for an inverse run, last to first: the block after the last stage, or the stage that is refused.
+pub fn run_stages(
+    run: Run,
+    col: &[i32],
+    row: &[i32],
+    columns: &[u16; 32],
+    rows: &[u16; 32],
+    x: &mut [i32; 256],
+) -> Outcome
+    requires { ⌜ Matched (now col) (now row) × Starts (now col) (now columns) × Starts (now row) (now rows)
+        × Bounded (limitOf (run .task)) (now x) × (length (now x) ≡ 256) ⌝ }
+    ensures { λ r. ⌜ RunEnded (jointRunBy run (now (col .entry)) (now (row .entry)) (now (x .entry))) r (now (x .exit))
+        × (length (now (x .exit)) ≡ 256) ⌝ }
+{
+    let task = run.task;
+    let n1 = count_at(col, 0);
+    let n2 = count_at(row, 0);
+    let many = count_at(col, 1);
+    for t in 0..many {
+        let i = nth_start(task, col, columns, t);
+        let j = nth_start(task, row, rows, t);
+        let r = run_stage(run, col, row, n1, n2, i, j, x);
+        if !r.ok {
+            return Outcome {
+                ok: false,
+                stage: t + 1,
+            };
+        }
+    }
+    Outcome { ok: true, stage: 0 }
+}
