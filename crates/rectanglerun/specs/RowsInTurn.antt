@@ -19,7 +19,8 @@ use Rattle.factor.specs.LayoutInSheet.{InSheet}
 use Rattle.factor.specs.Steps.{Step, step-stops, step-goes}
 use Rattle.factor.specs.InPlace.{inPlace}
 use Rattle.rows.specs.RowsInPlace.{RowDone, elementOf, rowOrder, row-done-same, element-same, row-stopped, row-passed, no-row}
-use Rattle.rectanglerun.specs.UndoingOrder.{nthRow, pairOrder, weightsOf, nth-row-below, pair-order-permutes, pair-order-row}
+use Rattle.rectanglerun.specs.UndoingOrder.{nthRow, pairOrder, weightsOf}
+use Rattle.rectanglerun.specs.UndoingOrder.{nth-row-below, pair-order-permutes, pair-order-row}
 use Rattle.rectanglerun.specs.UndoingOrder.{row-unwritten}
 
 -- what is asked of the two factors and of the block

@@ -39,7 +39,8 @@ use Rattle.rows.specs.RowsInPlace.{elementOf, rowOrder, in-place-fill}
 use Rattle.rectanglerun.specs.Multiples.{joint-whole}
 use Rattle.rectanglerun.specs.Moves.{sourceOf}
 use Rattle.rectanglerun.specs.Weights.{diagonal-there, across-row, magnitude-there, magnitudes-row-is}
-use Rattle.rectanglerun.specs.UndoingOrder.{nthUndonePair, nthRow, pairOrder, weightsBy, pairs-permute, rows-permute, earlier}
+use Rattle.rectanglerun.specs.UndoingOrder.{nthUndonePair, nthRow, pairOrder}
+use Rattle.rectanglerun.specs.UndoingOrder.{weightsBy, pairs-permute, rows-permute, earlier}
 
 -- ---- element by element
 module _ (c r : List ℤ) (n1 n2 a b : ℕ) where
