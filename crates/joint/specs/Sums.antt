@@ -44,6 +44,14 @@ added n f v = fill n (λ c. at v c +ℤ f c) v
 unfoldable pub rowsSum : List ℤ → ℕ → ℕ → List ℤ → ℕ → ℕ → ℕ → ℤ
 rowsSum a p m x k n c = sum m (λ j. at a (p + j) *ℤ at x (k + j * n + c))
 
+-- the same, and the row's own numbers from place o on, each times the diagonal's weight
+abbrev pub sideWith : List ℤ → ℕ → ℕ → List ℤ → ℕ → ℕ → ℤ → ℕ → ℕ → ℤ
+sideWith a p m x k n diagonal o c = (diagonal *ℤ at x (o + c)) +ℤ rowsSum a p m x k n c
+
+-- four numbers into their columns, from c on
+abbrev pub withFour : ℕ → List ℤ → List ℤ → List ℤ
+withFour c t v = set (set (set (set v c (at t 0)) (c + 1) (at t 1)) (c + 2) (at t 2)) (c + 3) (at t 3)
+
 -- "V": row m times each of the n columns
 unfoldable pub columnSums : List ℤ → Row → ℕ → ℤ → List ℤ → ℕ → List ℤ
 columnSums a r m diagonal x n = fill n (λ k. across a r m diagonal (inColumn x n k)) (replicate 16 (pos 0))
@@ -77,17 +85,27 @@ no-diagonal h = record { row = h; small = within-le (omega arith) (within-pos 0)
 abbrev pub product : ℕ
 product = mostEntry * mostAllowance
 
--- m entries of a from place p on, rows of x from place k on, and sums of some products
-pub record Adding (a : List ℤ) (p m : ℕ) (x : List ℤ) (k n : ℕ) (v : List ℤ) : Type 0 where
+-- m entries of a from place p on, w numbers of each row of x from place k on, and sums of some products
+pub record Adding (a : List ℤ) (p m : ℕ) (x : List ℤ) (k n w : ℕ) (v : List ℤ) : Type 0 where
   pub some : ℕ
   pub few : some + m ≤ 16
-  pub wide : n ≤ 16
+  pub wide : w ≤ 16
   pub room : p + m ≤ length a
-  pub places : k + m * n ≤ 256
+  pub places : (j : ℕ) → j < m → k + j * n + w ≤ 256
   pub entries : (j : ℕ) → j < m → Within mostEntry (at a (p + j))
   pub numbers : Bounded mostAllowance x
   pub small : Bounded (some * product) v
   pub long : length v ≡ 16
+
+-- m entries of a from place p on, and whole rows of x from place k on
+pub record Side (a : List ℤ) (p m : ℕ) (x : List ℤ) (k n : ℕ) : Type 0 where
+  pub few : m ≤ 16
+  pub wide : n ≤ 16
+  pub start : k ≤ 256
+  pub room : p + m ≤ length a
+  pub places : k + m * n ≤ 256
+  pub entries : (j : ℕ) → j < m → Within mostEntry (at a (p + j))
+  pub numbers : Bounded mostAllowance x
 
 -- m entries of a from place p on, and numbers of V from place k on
 pub record Wide (a : List ℤ) (p : ℕ) (v : List ℤ) (k m : ℕ) : Type 0 where
@@ -177,32 +195,53 @@ added-small n f v s j l h g = record { small = λ c. go c (decLt c n) }
     go c (yes b) = rw (fill-at n (λ c. at v c +ℤ f c) v c b l) (within-le (omega arith) (within-+ (h .small c) (g c b)))
     go c (no b) = rw (fill-past n (λ c. at v c +ℤ f c) v c (omega arith)) (within-le (omega arith) (h .small c))
 
-rows-small : {a x v : List ℤ} {p m k n : ℕ} → Adding a p m x k n v → (j : ℕ) → j ≤ m → (c : ℕ) →
+inside : {a x v : List ℤ} {p m k n w : ℕ} → Adding a p m x k n w v → w ≤ length v
+inside t = omega (arith, t .wide, t .long)
+
+rows-small : {a x v : List ℤ} {p m k n w : ℕ} → Adding a p m x k n w v → (j : ℕ) → j ≤ m → (c : ℕ) →
     Within (j * product) (rowsSum a p j x k n c)
 unfolding rowsSum
 rows-small t j l c = sum-within j _ (λ i b. within-* (t .entries i (omega arith)) (t .numbers .small _))
 
 -- before the first row, and after j
-pub added-none : {a x v : List ℤ} {p m k n : ℕ} → Adding a p m x k n v → v ≡ added n (rowsSum a p 0 x k n) v
+pub added-none : {a x v : List ℤ} {p m k n w : ℕ} → Adding a p m x k n w v → v ≡ added w (rowsSum a p 0 x k n) v
 unfolding rowsSum sum
-added-none {v} {n} t =
-    let e = t .wide in
-    let l : n ≤ length v = omega (arith, t .long) in
-    same-list n v _ (sym (length-fill n _ v)) (λ c b. sym (fill-at n _ v c b l ∙ +ℤ-idr (at v c)))
-    (λ c b. sym (fill-past n _ v c b))
+added-none {v} {w} t =
+    same-list w v _ (sym (length-fill w _ v)) (λ c b. sym (fill-at w _ v c b (inside t) ∙ +ℤ-idr (at v c)))
+    (λ c b. sym (fill-past w _ v c b))
 
-pub adding-small : {a x v : List ℤ} {p m k n : ℕ} → Adding a p m x k n v → (j : ℕ) → j < m →
-    Bounded mostColumn (added n (rowsSum a p j x k n) v)
-adding-small {v} {n} t j l =
+pub adding-small : {a x v : List ℤ} {p m k n w : ℕ} → Adding a p m x k n w v → (j : ℕ) → j < m →
+    Bounded mostColumn (added w (rowsSum a p j x k n) v)
+adding-small {v} {w} t j l =
     let d = t .few in
-    let e = t .wide in
-    bounded-le (omega arith) (added-small n _ v (t .some) j (omega (arith, t .long)) (t .small)
-    (λ c b. rows-small t j (omega arith) c))
+    bounded-le (omega arith) (added-small w _ v (t .some) j (inside t) (t .small) (λ c b. rows-small t j (omega arith) c))
 
-pub adding-next : {a x v : List ℤ} {p m k n : ℕ} → Adding a p m x k n v → (j : ℕ) →
-    added n (λ c. at a (p + j) *ℤ at x (k + j * n + c)) (added n (rowsSum a p j x k n) v) ≡ added n (rowsSum a p (j + 1) x k n) v
+-- after the last
+pub adding-all-small : {a x v : List ℤ} {p m k n w : ℕ} → Adding a p m x k n w v →
+    Bounded mostColumn (added w (rowsSum a p m x k n) v)
+adding-all-small {v} {m} {w} t =
+    let d = t .few in
+    bounded-le (omega arith) (added-small w _ v (t .some) m (inside t) (t .small) (λ c b. rows-small t m (omega arith) c))
+
+pub adding-next : {a x v : List ℤ} {p m k n w : ℕ} → Adding a p m x k n w v → (j : ℕ) →
+    added w (λ c. at a (p + j) *ℤ at x (k + j * n + c)) (added w (rowsSum a p j x k n) v) ≡ added w (rowsSum a p (j + 1) x k n) v
 unfolding rowsSum sum
-adding-next {v} {n} t j = let e = t .wide in added-twice n _ _ v (omega (arith, t .long)) ∙ rw add-one
+adding-next {v} {w} t j = added-twice w _ _ v (inside t) ∙ rw add-one
+
+-- some columns of whole rows: w of them, of the first row those from place k′ on, and sums of `some` products
+pub side-adding : {a x v : List ℤ} {p m k n : ℕ} → Side a p m x k n → (k′ w some : ℕ) → k′ + w ≤ k + n → some + m ≤ 16 →
+    w ≤ 16 → Bounded (some * product) v → length v ≡ 16 → Adding a p m x k′ n w v
+side-adding {m} {k} {n} t k′ w some l few wide small long = record {
+  some = some;
+  few = few;
+  wide = wide;
+  room = t .room;
+  places = λ j b. let e : suc j ≤ m = b in omega (arith, l, NatL.mul-le-mul-right n e, t .places);
+  entries = t .entries;
+  numbers = t .numbers;
+  small = small;
+  long = long;
+}
 
 -- the two runs of entries
 module _ {a : List ℤ} {r : Row} {m : ℕ} (h : RowIn a 16 r m) {x : List ℤ} {n : ℕ} (few : n ≤ 16)
@@ -210,34 +249,40 @@ module _ {a : List ℤ} {r : Row} {m : ℕ} (h : RowIn a 16 r m) {x : List ℤ} 
   abbrev zeros : List ℤ
   zeros = replicate 16 (pos 0)
 
-  pub above : Adding a (r .at) (r .left) x 0 n (replicate 16 (pos 0))
-  above = record {
-    some = 0;
+  pub above-side : Side a (r .at) (r .left) x 0 n
+  above-side = record {
     few = let d = h .left in let e = h .right in omega arith;
     wide = few;
+    start = omega arith;
     room = let d = h .room in omega arith;
     places = let d : r .left ≤ 16 = (let d = h .left in let e = h .right in omega arith) in omega (arith, mul-le-mul d few);
     entries = λ j b. h .entries j (omega arith);
     numbers = q;
-    small = nothing 16;
-    long = refl;
   }
 
-  pub below : Adding a (r .at + r .left) (r .right) x ((m + 1) * n) n
-      (added n (rowsSum a (r .at) (r .left) x 0 n) (replicate 16 (pos 0)))
-  below = record {
-    some = r .left;
+  pub below-side : Side a (r .at + r .left) (r .right) x ((m + 1) * n) n
+  below-side = record {
     few = let d = h .left in let e = h .right in omega arith;
     wide = few;
+    start = omega (arith, mul-le-mul (h .right) few);
     room = let d = h .room in omega arith;
     places = omega (arith, mul-le-mul (h .right) few);
     entries = λ j b. let e : r .at + (r .left + j) ≡ r .at + r .left + j = omega arith in
         rw e at (h .entries (r .left + j) (omega arith));
     numbers = q;
-    small = bounded-le (omega arith) (added-small n _ zeros 0 (r .left) few (nothing 16)
-        (λ c b. rows-small above (r .left) (omega arith) c));
-    long = length-fill n _ zeros;
   }
+
+  pub above : Adding a (r .at) (r .left) x 0 n n (replicate 16 (pos 0))
+  above = side-adding above-side 0 n 0 (omega arith) (omega (arith, above-side .few)) few (nothing 16) refl
+
+  pub below : Adding a (r .at + r .left) (r .right) x ((m + 1) * n) n n
+      (added n (rowsSum a (r .at) (r .left) x 0 n) (replicate 16 (pos 0)))
+  below =
+      side-adding below-side ((m + 1) * n) n (r .left) (omega arith) (let d = h .left in let e = h .right in omega arith)
+      few
+      (bounded-le (omega arith) (added-small n _ zeros 0 (r .left) few (nothing 16)
+      (λ c b. rows-small above (r .left) (omega arith) c)))
+      (length-fill n _ zeros)
 
   -- together
   pub rest-rows : added n (rowsSum a (r .at + r .left) (r .right) x ((m + 1) * n) n)
@@ -260,6 +305,56 @@ module _ {a : List ℤ} {r : Row} {m : ℕ} (h : RowIn a 16 r m) {x : List ℤ} 
   column-rows diagonal =
       fill-over n _ _ zeros few
       ∙ fill-same n _ _ zeros (λ c b. ap (λ (z : ℤ). z +ℤ (diagonal *ℤ at x (m * n + c))) (fill-at n _ zeros c b few))
+
+-- ---- four columns more
+-- four columns of whole rows, c columns from the left, in sums of the own terms or of none
+pub side-four : {a x v : List ℤ} {p m k n : ℕ} → Side a p m x k n → (c some : ℕ) → c + 4 ≤ n → some + m ≤ 16 →
+    Bounded (some * product) v → length v ≡ 16 → Adding a p m x (k + c) n 4 v
+side-four {k} t c some l few small long = side-adding t (k + c) 4 some (omega arith) few (omega arith) small long
+
+-- the own terms
+pub own-small : {x : List ℤ} {d : ℤ} (w o : ℕ) → w ≤ 16 → Bounded mostAllowance x → Within mostEntry d →
+    Bounded (1 * product) (added w (λ c. d *ℤ at x (o + c)) (replicate 16 (pos 0)))
+own-small w o l q h =
+    bounded-le (omega arith) (added-small w _ (replicate 16 (pos 0)) 0 1 l (nothing 16) (λ c b. within-le (omega arith) (within-* h (q .small _))))
+
+pub four-rows : (a : List ℤ) (p m : ℕ) (x : List ℤ) (k n c d : ℕ) → rowsSum a p m x (k + c) n d ≡ rowsSum a p m x k n (c + d)
+unfolding rowsSum
+four-rows a p m x k n c d =
+    sum-cong m _ _ (λ j b. let e : k + c + j * n + d ≡ k + j * n + (c + d) = omega arith in rw e)
+
+fill-four : (f : ℕ → ℤ) (k : ℕ) (v : List ℤ) →
+    set (set (set (set (fill k f v) k (f (k + 0))) (k + 1) (f (k + 1))) (k + 2) (f (k + 2))) (k + 3) (f (k + 3))
+    ≡ fill (suc (suc (suc (suc k)))) f v
+unfolding fill
+fill-four f k v =
+    let b : k + 0 ≡ k = omega arith in
+    let c : k + 2 ≡ suc (suc k) = omega arith in
+    let d : k + 3 ≡ suc (suc (suc k)) = omega arith in
+    rw (b, add-one, c, d)
+
+-- and what they are of the whole row
+pub four-with : (a : List ℤ) (p m : ℕ) (x : List ℤ) (k n : ℕ) (d : ℤ) (o c : ℕ) →
+    added 4 (rowsSum a p m x (k + c) n) (added 4 (λ e. d *ℤ at x (o + c + e)) (replicate 16 (pos 0)))
+    ≡ added 4 (λ e. sideWith a p m x k n d o (c + e)) (replicate 16 (pos 0))
+four-with a p m x k n d o c =
+    added-twice 4 _ _ (replicate 16 (pos 0)) (omega arith)
+    ∙ fill-same 4 _ _ (replicate 16 (pos 0))
+    (λ e b. let h : o + c + e ≡ o + (c + e) = omega arith in rw (four-rows a p m x k n c e, h))
+
+pub four-more : (f : ℕ → ℤ) (g : ℕ) (t v : List ℤ) →
+    t ≡ added 4 (λ c. f (4 * g + c)) (replicate 16 (pos 0)) → v ≡ added (4 * g) f (replicate 16 (pos 0)) →
+    withFour (4 * g) t v ≡ added (4 * (g + 1)) f (replicate 16 (pos 0))
+four-more f g t v e h =
+    let q : 4 * (g + 1) ≡ suc (suc (suc (suc (4 * g)))) = omega arith in
+    rw (h, four 0 (omega arith), four 1 (omega arith), four 2 (omega arith), four 3 (omega arith), q)
+    (fill-four (λ c. at (replicate 16 (pos 0)) c +ℤ f c) (4 * g) (replicate 16 (pos 0)))
+  where
+    four : (c : ℕ) → c < 4 → at t c ≡ at (replicate 16 (pos 0)) (4 * g + c) +ℤ f (4 * g + c)
+    four c b =
+        ap (λ (u : List ℤ). at u c) e
+        ∙ fill-at 4 (λ c. at (replicate 16 (pos 0)) c +ℤ f (4 * g + c)) (replicate 16 (pos 0)) c b (omega arith)
+        ∙ rw (zero-at 16 c, zero-at 16 (4 * g + c))
 
 -- ---- V holds small numbers, whatever its place
 pub fill-small : {B : ℕ} (n : ℕ) (f : ℕ → ℤ) (v : List ℤ) → Bounded B v → ((k : ℕ) → k < n → Within B (f k)) →

@@ -9,8 +9,8 @@ ghost use Rattle.whole.specs.Diff.{Within};
 ghost use Rattle.whole.specs.Sum.{sum};
 ghost use Rattle.rules.specs.Numbers.{mostEntry, mostAllowance, at};
 ghost use Rattle.factor.specs.SumBounds.{Bounded, RowIn};
-ghost use Rattle.joint.specs.Sums.{added, rowsSum, entriesSum, columnSums, restSums, jointSum};
-ghost use Rattle.joint.specs.Sums.{mostColumn, mostRest, Band, Adding, Wide};
+ghost use Rattle.joint.specs.Sums.{added, rowsSum, sideWith, withFour, entriesSum, columnSums, restSums, jointSum};
+ghost use Rattle.joint.specs.Sums.{mostColumn, mostRest, Band, Adding, Side, Wide};
 use factor::Row;
 use factor::sums::with_term;
 
@@ -34,25 +34,101 @@ pub fn wide_sum(a: &[i32], p: usize, v: &[i64; 16], k: usize, m: usize) -> i64
     sum
 }
 
-// One row of the block more: a times each of its n numbers, from place k on, into the sums v. Sums are lent, so that there is one
+// One row of the block more: a times each of its w numbers from place k on, into the sums v. Sums are lent, so that there is one
 // row of them, and go row by row, since the numbers of a row lie side by side.
-fn add_row(a: i32, x: &[i32; 256], k: usize, n: usize, v: &mut [i64; 16])
-    requires { ⌜ (n ≤ 16) × (k + n ≤ 256) × Within mostEntry a
+fn add_row(a: i32, x: &[i32; 256], k: usize, w: usize, v: &mut [i64; 16])
+    requires { ⌜ (w ≤ 16) × (k + w ≤ 256) × Within mostEntry a
         × Bounded mostAllowance (now x) × Bounded mostColumn (now v) ⌝ }
-    ensures { λ _. ⌜ now (v .exit) ≡ added n (λ c. a *ℤ at (now (x .entry)) (k + c)) (now (v .entry)) ⌝ }
+    ensures { λ _. ⌜ now (v .exit) ≡ added w (λ c. a *ℤ at (now (x .entry)) (k + c)) (now (v .entry)) ⌝ }
 {
-    for c in 0..n {
+    for c in 0..w {
         v[c] = with_term(v[c], a, x[k + c]);
     }
 }
 
-// The m numbers of a from place p on, each times a row of the block, the first of which starts at place k.
-fn add_rows(a: &[i32], p: usize, m: usize, x: &[i32; 256], k: usize, n: usize, v: &mut [i64; 16])
-    requires { ⌜ Adding (now a) p m (now x) k n (now v) ⌝ }
-    ensures { λ _. ⌜ now (v .exit) ≡ added n (rowsSum (now (a .entry)) p m (now (x .entry)) k n) (now (v .entry)) ⌝ }
+// The m numbers of a from place p on, each times w numbers of a row of the block: of the first row those from place k on, of each
+// row after it those n places on.
+fn add_rows(
+    a: &[i32],
+    p: usize,
+    m: usize,
+    x: &[i32; 256],
+    k: usize,
+    n: usize,
+    w: usize,
+    v: &mut [i64; 16],
+)
+    requires { ⌜ Adding (now a) p m (now x) k n w (now v) ⌝ }
+    ensures { λ _. ⌜ now (v .exit) ≡ added w (rowsSum (now (a .entry)) p m (now (x .entry)) k n) (now (v .entry)) ⌝ }
 {
     for j in 0..m {
-        add_row(a[p + j], x, k + j * n, n, v);
+        add_row(a[p + j], x, k + j * n, w, v);
+    }
+}
+
+// Four sums into their columns, from c on.
+fn put_four(t: &[i64; 16], v: &mut [i64; 16], c: usize)
+    requires { ⌜ (c + 4 ≤ 16) × Bounded mostColumn (now t) ⌝ }
+    ensures { λ _. ⌜ now (v .exit) ≡ withFour c (now (t .entry)) (now (v .entry)) ⌝ }
+{
+    v[c] = t[0];
+    v[c + 1] = t[1];
+    v[c + 2] = t[2];
+    v[c + 3] = t[3];
+}
+
+// m entries on one side of the diagonal, each times a row of the block, the first of which starts at place k. Four columns at a
+// time: four sums fit into registers, where the compiler leaves out the rest of t.
+pub fn side_sums(
+    a: &[i32],
+    p: usize,
+    m: usize,
+    x: &[i32; 256],
+    k: usize,
+    n: usize,
+    v: &mut [i64; 16],
+)
+    requires { ⌜ Side (now a) p m (now x) k n × (now v ≡ replicate 16 (pos 0)) ⌝ }
+    ensures { λ _. ⌜ now (v .exit) ≡ added n (rowsSum (now (a .entry)) p m (now (x .entry)) k n) (replicate 16 (pos 0)) ⌝ }
+{
+    if n % 4 != 0 {
+        add_rows(a, p, m, x, k, n, n, v);
+        return;
+    }
+    for g in 0..n / 4 {
+        let mut t = [0i64; 16];
+        add_rows(a, p, m, x, k + 4 * g, n, 4, &mut t);
+        put_four(&t, v, 4 * g);
+    }
+}
+
+// The same and the row's own numbers, from place o on, each times the diagonal's weight.
+pub fn side_sums_with(
+    a: &[i32],
+    p: usize,
+    m: usize,
+    x: &[i32; 256],
+    k: usize,
+    n: usize,
+    diagonal: i32,
+    o: usize,
+    v: &mut [i64; 16],
+)
+    requires { ⌜ Side (now a) p m (now x) k n × (now v ≡ replicate 16 (pos 0)) × (m ≤ 15) × (o + n ≤ 256)
+        × Within mostEntry diagonal ⌝ }
+    ensures { λ _. ⌜ now (v .exit) ≡ added n (sideWith (now (a .entry)) p m (now (x .entry)) k n diagonal o)
+        (replicate 16 (pos 0)) ⌝ }
+{
+    if n % 4 != 0 {
+        add_row(diagonal, x, o, n, v);
+        add_rows(a, p, m, x, k, n, n, v);
+        return;
+    }
+    for g in 0..n / 4 {
+        let mut t = [0i64; 16];
+        add_row(diagonal, x, o + 4 * g, 4, &mut t);
+        add_rows(a, p, m, x, k + 4 * g, n, 4, &mut t);
+        put_four(&t, v, 4 * g);
     }
 }
 
@@ -64,8 +140,8 @@ pub fn rest_sums(a: &[i32], r: Row, m: usize, x: &[i32; 256], n: usize, v: &mut 
     let at = r.at;
     let left = r.left;
     let right = r.right;
-    add_rows(a, at, left, x, 0, n, v);
-    add_rows(a, at + left, right, x, (m + 1) * n, n, v);
+    add_rows(a, at, left, x, 0, n, n, v);
+    add_rows(a, at + left, right, x, (m + 1) * n, n, n, v);
 }
 
 // Row m of a matrix, its diagonal too, times each of the n columns of the block, into v.

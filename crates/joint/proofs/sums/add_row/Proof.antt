@@ -17,10 +17,10 @@ use Rattle.joint.proofs.sums.add_row.Statement.{statement}
 use Rattle.joint.proofs.sums.add_row.Tie as tie
 
 abbrev Inv-loop : tie.InvT-loop
-Inv-loop a x k n v₀ c₀ v c = (c ≤ n) × (v ≡ fill c (λ i. at v₀ i +ℤ (toZ w32 a *ℤ at x (k + i))) v₀)
+Inv-loop a x k w v₀ c₀ v c = (c ≤ w) × (v ≡ fill c (λ i. at v₀ i +ℤ (toZ w32 a *ℤ at x (k + i))) v₀)
 
 abbrev μ-loop : tie.MeasureT-loop
-μ-loop a x k n v₀ c₀ v c = n - c
+μ-loop a x k w v₀ c₀ v c = w - c
 
 loop-holds : tie.Need-loop-holds Inv-loop μ-loop
 unfolding fill
@@ -98,7 +98,7 @@ returns : tie.Need-returns Inv-loop μ-loop
 returns c =
     let s = c .before .before in
     let l = c .before .loop in
-    let e : l .c ≡ s .args .n = omega arith in
+    let e : l .c ≡ s .args .w = omega arith in
     l .inv .1 ∙ rw (e, toZ-ofZ (s .fits .a))
 
 pub add-row-spec : {M : Type 1} → statement M

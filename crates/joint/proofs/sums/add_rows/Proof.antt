@@ -10,21 +10,18 @@ use Rattle.joint.proofs.sums.add_rows.Statement.{statement}
 use Rattle.joint.proofs.sums.add_rows.Tie as tie
 
 abbrev Inv-loop : tie.InvT-loop
-Inv-loop a p m x k n v₀ j₀ v j = (j ≤ m) × (v ≡ added n (rowsSum a p j x k n) v₀)
+Inv-loop a p m x k n w v₀ j₀ v j = (j ≤ m) × (v ≡ added w (rowsSum a p j x k n) v₀)
 
 abbrev μ-loop : tie.MeasureT-loop
-μ-loop a p m x k n v₀ j₀ v j = m - j
+μ-loop a p m x k n w v₀ j₀ v j = m - j
 
 loop-holds : tie.Need-loop-holds Inv-loop μ-loop
 loop-holds c = (omega arith, added-none (c .pre))
 
 -- row j lies in the block
 row : (i : tie.In-loop Inv-loop μ-loop) →
-    i .before .before .args .k + i .before .loop .j * i .before .before .args .n + i .before .before .args .n ≤ 256
-row i =
-    let s = i .before .before in
-    let l : suc (i .before .loop .j) ≤ s .args .m = i .loop-test .taken in
-    omega (arith, NatL.mul-le-mul-right (s .args .n) l, s .pre .places)
+    i .before .before .args .k + i .before .loop .j * i .before .before .args .n + i .before .before .args .w ≤ 256
+row i = i .before .before .pre .places (i .before .loop .j) (i .loop-test .taken)
 
 add-add-row : tie.Need-add-add-row Inv-loop μ-loop
 add-add-row c = let h = c .before .before .pre .room in omega arith

@@ -1,7 +1,7 @@
 -- The rows above, then the rows below (`rest-rows`).
 use mathlib.Core.Path.{_∙_}
 use native.Mathlib.Omega.{arith}
-use Rattle.joint.specs.Sums.{above, below, rest-rows}
+use Rattle.joint.specs.Sums.{above, below, below-side, rest-rows}
 use Rattle.joint.proofs.sums.rest_sums.Statement.{statement}
 use Rattle.joint.proofs.sums.rest_sums.Tie as tie
 
@@ -15,7 +15,7 @@ add-add-rows-2 : tie.Need-add-add-rows-2
 add-add-rows-2 c = let h = c .before .before .pre .0 .right in omega arith
 
 mul-add-rows : tie.Need-mul-add-rows
-mul-add-rows c = let s = c .before .before in let h = below (s .pre .0) (s .pre .1) (s .pre .2) .places in omega arith
+mul-add-rows c = let s = c .before .before in let h = below-side (s .pre .0) (s .pre .1) (s .pre .2) .places in omega arith
 
 add-rows-requires-2 : tie.Need-add-rows-requires-2
 add-rows-requires-2 c κs =
