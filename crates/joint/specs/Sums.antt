@@ -9,7 +9,7 @@ use native.Mathlib.Nat as NatL
 use native.Mathlib.Numerals.{add-one}
 use native.Mathlib.Decide.{decLt}
 use native.Mathlib.Omega.{arith}
-use lib.IntN.{ℤ, pos, _+ℤ_, _-ℤ_, _*ℤ_, +ℤ-idl, +ℤ-idr, +ℤ-assoc}
+use lib.IntN.{ℤ, pos, _+ℤ_, _-ℤ_, _*ℤ_, +ℤ-idl, +ℤ-idr, +ℤ-assoc, +ℤ-comm}
 use lib.ListN.{length, set, replicate}
 use Rattle.whole.specs.Diff.{lin, Within}
 use Rattle.whole.specs.Laws.{distrib}
@@ -305,6 +305,48 @@ module _ {a : List ℤ} {r : Row} {m : ℕ} (h : RowIn a 16 r m) {x : List ℤ} 
   column-rows diagonal =
       fill-over n _ _ zeros few
       ∙ fill-same n _ _ zeros (λ c b. ap (λ (z : ℤ). z +ℤ (diagonal *ℤ at x (m * n + c))) (fill-at n _ zeros c b few))
+
+-- ---- a row with entries on one side of the diagonal
+pub rest-left : (a : List ℤ) (r : Row) (m : ℕ) (x : List ℤ) (n p q : ℕ) → p ≡ r .at → q ≡ r .left → r .right ≡ 0 →
+    added n (rowsSum a p q x 0 n) (replicate 16 (pos 0)) ≡ restSums a r m x n
+unfolding restSums entriesSum rowsSum sum
+rest-left a r m x n p q f g e =
+    fill-same n _ _ (replicate 16 (pos 0))
+    (λ c b. rw (zero-at 16 c, f, g, e) (+ℤ-idl _ ∙ sum-cong (r .left) _ _ (λ j g. rw zero-add) ∙ sym (+ℤ-idr _)))
+
+pub rest-right : (a : List ℤ) (r : Row) (m : ℕ) (x : List ℤ) (n p q : ℕ) → p ≡ r .at → q ≡ r .right → r .left ≡ 0 →
+    added n (rowsSum a p q x ((m + 1) * n) n) (replicate 16 (pos 0)) ≡ restSums a r m x n
+unfolding restSums entriesSum rowsSum sum
+rest-right a r m x n p q f g e =
+    fill-same n _ _ (replicate 16 (pos 0))
+    (λ c b.
+    rw (zero-at 16 c, f, g, e)
+    (+ℤ-idl _
+    ∙ sum-cong (r .right) _ _
+    (λ j g.
+    let y : r .at + j ≡ r .at + 0 + j = omega arith in
+    let z : (m + 1) * n + j * n + c ≡ (suc m + j) * n + c = omega arith in
+    rw (y, z))
+    ∙ sym (+ℤ-idl _)))
+
+-- and its own numbers
+pub rest-with : (a : List ℤ) (r : Row) (m : ℕ) (x : List ℤ) (n : ℕ) (diagonal : ℤ) (p q k : ℕ) → n ≤ 16 →
+    added n (rowsSum a p q x k n) (replicate 16 (pos 0)) ≡ restSums a r m x n →
+    added n (sideWith a p q x k n diagonal (m * n)) (replicate 16 (pos 0)) ≡ columnSums a r m diagonal x n
+unfolding restSums columnSums
+rest-with a r m x n diagonal p q k few e =
+    fill-same n _ (λ c. at zeros c +ℤ (rowsSum a p q x k n c +ℤ own c)) zeros
+    (λ c b. ap (λ (z : ℤ). at zeros c +ℤ z) (+ℤ-comm (own c) (rowsSum a p q x k n c)))
+    ∙ sym (added-twice n (rowsSum a p q x k n) own zeros few)
+    ∙ ap (added n own) e
+    ∙ fill-over n _ _ zeros few
+    ∙ fill-same n _ _ zeros (λ c b. ap (λ (z : ℤ). z +ℤ own c) (fill-at n _ zeros c b few))
+  where
+    zeros : List ℤ
+    zeros = replicate 16 (pos 0)
+
+    own : ℕ → ℤ
+    own c = diagonal *ℤ at x (m * n + c)
 
 -- ---- four columns more
 -- four columns of whole rows, c columns from the left, in sums of the own terms or of none

@@ -5,10 +5,11 @@ use mathlib.Core.Bool.{Bool}
 use mathlib.Core.List.{List}
 use mathlib.Core.Path.{_≡_, refl, sym, ap, _∙_}
 use Prim.Native.Nat.{ℕ, suc, _+_, _-_, _*_, _≤_, _<_}
-use native.Mathlib.Nat.{zero-add}
+use native.Mathlib.Nat.{zero-add, add-zero}
 use native.Mathlib.Numerals.{add-one}
 use native.Mathlib.Omega.{arith}
-use lib.IntN.{ℤ, _+ℤ_, _*ℤ_, +ℤ-idl, +ℤ-idr}
+use lib.IntN.{ℤ, pos, _+ℤ_, _*ℤ_, +ℤ-idl, +ℤ-idr}
+use lib.ListN.{replicate}
 use Rattle.whole.specs.Laws.{Sign}
 use Rattle.whole.specs.Sum.{sum, sum-cong}
 use Rattle.rules.specs.declared.Rule.{Rule}
@@ -18,11 +19,12 @@ use Rattle.rules.specs.Factors.{above}
 use Rattle.rules.specs.Numbers.{bound, at}
 use Rattle.factor.specs.declared.Layout.{Layout}
 use Rattle.factor.specs.Layouts.{rowBy, rowOf}
-use Rattle.factor.specs.SumBounds.{Bounded}
-use Rattle.factor.specs.LayoutInSheet.{InSheet}
+use Rattle.factor.specs.SumBounds.{Bounded, bounded-le}
+use Rattle.factor.specs.LayoutInSheet.{InSheet, row-wide}
 use Rattle.factor.specs.InPlace.{in-place-other}
-use Rattle.joint.specs.Sums.{across, entriesSum, jointSum, mostColumn}
-use Rattle.joint.specs.Elements.{signAt, diagonalOf, sumsAt, roundedSum, appliedFrom, appliedAt, appliedOf}
+use Rattle.joint.specs.Sums.{across, entriesSum, jointSum, mostColumn, added, rowsSum, sideWith, Side}
+use Rattle.joint.specs.Sums.{above-side, below-side, rest-left, rest-right, rest-with}
+use Rattle.joint.specs.Elements.{signAt, diagonalOf, sumsAt, restSumsAt, roundedSum, appliedFrom, appliedAt, appliedOf}
 use Rattle.rows.specs.RowsInPlace.{RowDone, plain, inRow, row-done-along, applied-here}
 
 -- ---- definitions
@@ -52,6 +54,10 @@ module _ (f : Layout) (j : ℕ) where
   pub lower-left : f .kind ≡ Lower → rowOf f j .left ≡ j
   unfolding rowBy
   lower-left e = rw e
+
+  lower-right : f .kind ≡ Lower → rowOf f j .right ≡ 0
+  unfolding rowBy
+  lower-right e = rw e
 
   pub upper-at : f .kind ≡ Upper → rowOf f j .at ≡ f .entries + above (f .order) j
   unfolding rowBy
@@ -87,6 +93,34 @@ lower-next f j e = rw (lower-at f j e, lower-at f (j + 1) e, add-one) (omega ari
 pub upper-next : (f : Layout) (j : ℕ) → f .kind ≡ Upper → rowOf f j .at + (f .order - 1 - j) ≡ rowOf f (j + 1) .at
 unfolding above
 upper-next f j e = rw (upper-at f j e, upper-at f (j + 1) e, add-one) (omega arith)
+
+-- the rows of the block that row i of a factor has entries for, and the sums over them: p is where its entries start
+module _ {s : List ℤ} {f : Layout} (h : InSheet s f) {i : ℕ} (l : i < f .order) {x : List ℤ} (q : Bounded bound x) {n : ℕ}
+    (few : n ≤ 16) {p : ℕ} (z : p ≡ rowOf f i .at) where
+  pub lower-side : f .kind ≡ Lower → Side s p i x 0 n
+  lower-side e =
+      rw z (rw (lower-left f i e) at (above-side (row-wide (h .order) (h .row i l)) few (bounded-le (omega arith) q)))
+
+  pub upper-side : f .kind ≡ Upper → {m : ℕ} → m ≡ f .order - 1 - i → Side s p m x ((i + 1) * n) n
+  upper-side e {m} g =
+      let w : f .order - suc i ≡ m = rw g (omega arith) in
+      rw z
+      (rw (upper-left f i e, upper-right f i e, w, add-zero) at
+      (below-side (row-wide (h .order) (h .row i l)) few (bounded-le (omega arith) q)))
+
+  pub lower-rest : f .kind ≡ Lower → added n (rowsSum s p i x 0 n) (replicate 16 (pos 0)) ≡ restSumsAt s f i x n
+  lower-rest e = rest-left s (rowOf f i) i x n p i z (sym (lower-left f i e)) (lower-right f i e)
+
+  pub upper-rest : f .kind ≡ Upper → {m : ℕ} → m ≡ f .order - 1 - i →
+      added n (rowsSum s p m x ((i + 1) * n) n) (replicate 16 (pos 0)) ≡ restSumsAt s f i x n
+  upper-rest e {m} g =
+      let w : m ≡ f .order - suc i = rw g (omega arith) in
+      rest-right s (rowOf f i) i x n p m z (w ∙ sym (upper-right f i e)) (upper-left f i e)
+
+  -- with the row's own numbers
+  pub with-own : (m k : ℕ) → added n (rowsSum s p m x k n) (replicate 16 (pos 0)) ≡ restSumsAt s f i x n →
+      added n (sideWith s p m x k n (diagonalOf (signAt s f i)) (i * n)) (replicate 16 (pos 0)) ≡ sumsAt s f i x n
+  with-own m k e = rest-with s (rowOf f i) i x n (diagonalOf (signAt s f i)) p m k few e
 
 -- an element from its whole sum
 pub applied-from : (rule : Rule) (s : List ℤ) (f : Layout) (j : ℕ) (d : ℤ) (v : List ℤ) (x : ℤ) →

@@ -6,10 +6,8 @@ ghost use Prim.Native.Nat.{_+_, _-_, _≤_, _<_};
 ghost use Rattle.rules.specs.declared.Kind.the-variants.{Lower, Upper};
 ghost use Rattle.rules.specs.Numbers.{bound};
 ghost use Rattle.factor.specs.Layouts.{rowOf};
-ghost use Rattle.factor.specs.SumBounds.{Bounded};
-ghost use Rattle.factor.specs.LayoutInSheet.{InSheet};
 ghost use Rattle.joint.specs.Elements.{appliedOf};
-ghost use Rattle.rows.specs.RowsInPlace.{RowDone, plain, inRow, onward};
+ghost use Rattle.rows.specs.RowsInPlace.{RowAsks, RowDone, plain, inRow, onward};
 ghost use Rattle.rows.specs.Triangles.{TotalGiven, totalOf, RunGiven, appliedIn};
 use factor::Layout;
 use factor::before_lower;
@@ -17,9 +15,10 @@ use factor::before_upper;
 use factor::rounding::is_within;
 use factor::run::Outcome;
 use joint::elements::applied_whole;
+use joint::elements::diagonal_of;
 use joint::elements::sign_at;
-use joint::elements::sums_at;
 use joint::elements::with_diagonal;
+use joint::sums::side_sums_with;
 use joint::sums::wide_sum;
 use rules::Block;
 use rules::Rule;
@@ -173,44 +172,67 @@ fn apply_upper_elements(
     apply_upper(rule, row, f, n, d, v, k, 0, n, x)
 }
 
-// Row i under a lower factor: its sums, then its elements.
+// Row i of rows of n under a lower factor: its sums, over the rows above it, then its elements.
 pub fn apply_lower_row(
     rule: Rule,
     col: &[i32],
     fa: Layout,
     row: &[i32],
     fb: Layout,
+    n: usize,
     i: usize,
     x: &mut [i32; 256],
 ) -> Outcome
-    requires { ⌜ InSheet (now col) fa × InSheet (now row) fb × (i < fa .order) × Bounded bound (now x)
-        × (0 < fb .order) × (fb .kind ≡ Lower) ⌝ }
+    requires { ⌜ RowAsks (now col) fa (now row) fb i (now x) × (fb .kind ≡ Lower) × (n ≡ fb .order) ⌝ }
     ensures { λ r. ⌜ RowDone bound (plain (appliedOf rule (now (col .entry)) fa (now (row .entry)) fb (now (x .entry))))
         (inRow (fb .order) i) (fb .order) (now (x .entry)) (now (x .exit)) (r .ok) ⌝ }
 {
-    let n = fb.order;
+    let entries = fa.entries;
+    let d = sign_at(col, fa, i);
     let mut v = [0i64; 16];
-    sums_at(col, fa, i, x, n, &mut v);
-    apply_lower_elements(rule, row, fb, sign_at(col, fa, i), &v, i * n, x)
+    side_sums_with(
+        col,
+        entries + before_lower(i),
+        i,
+        x,
+        0,
+        n,
+        diagonal_of(d),
+        i * n,
+        &mut v,
+    );
+    apply_lower_elements(rule, row, fb, d, &v, i * n, x)
 }
 
-// Row i under an upper factor: its sums, then its elements.
+// Row i of rows of n under an upper factor: its sums, over the rows below it, then its elements.
 pub fn apply_upper_row(
     rule: Rule,
     col: &[i32],
     fa: Layout,
     row: &[i32],
     fb: Layout,
+    n: usize,
     i: usize,
     x: &mut [i32; 256],
 ) -> Outcome
-    requires { ⌜ InSheet (now col) fa × InSheet (now row) fb × (i < fa .order) × Bounded bound (now x)
-        × (0 < fb .order) × (fb .kind ≡ Upper) ⌝ }
+    requires { ⌜ RowAsks (now col) fa (now row) fb i (now x) × (fb .kind ≡ Upper) × (n ≡ fb .order) ⌝ }
     ensures { λ r. ⌜ RowDone bound (plain (appliedOf rule (now (col .entry)) fa (now (row .entry)) fb (now (x .entry))))
         (inRow (fb .order) i) (fb .order) (now (x .entry)) (now (x .exit)) (r .ok) ⌝ }
 {
-    let n = fb.order;
+    let entries = fa.entries;
+    let m = fa.order;
+    let d = sign_at(col, fa, i);
     let mut v = [0i64; 16];
-    sums_at(col, fa, i, x, n, &mut v);
-    apply_upper_elements(rule, row, fb, sign_at(col, fa, i), &v, i * n, x)
+    side_sums_with(
+        col,
+        entries + before_upper(m, i),
+        m - 1 - i,
+        x,
+        (i + 1) * n,
+        n,
+        diagonal_of(d),
+        i * n,
+        &mut v,
+    );
+    apply_upper_elements(rule, row, fb, d, &v, i * n, x)
 }

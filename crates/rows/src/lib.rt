@@ -1,15 +1,11 @@
 // One row of elements: every number that it makes is in bound, or the row stops there. A row is part of one stage, so its
 // outcome is that of a run of this stage alone.
 ghost use Prim.Native.Nat.{_<_};
-ghost use Rattle.rules.specs.Numbers.{bound, mostAllowance};
+ghost use Rattle.rules.specs.Numbers.{mostAllowance};
 ghost use Rattle.factor.specs.SumBounds.{Bounded};
 ghost use Rattle.factor.specs.LayoutInSheet.{InSheet};
-ghost use Rattle.joint.specs.Elements.{appliedOf, undoneOf};
 ghost use Rattle.joint.specs.Allowances.{allowedOf};
-ghost use Rattle.rows.specs.TrianglesUndone.{undoneTurn};
-ghost use Rattle.rows.specs.RowsInPlace.{RowAsks, RowDone, inRow, plain};
-use applied::apply_lower_row;
-use applied::apply_upper_row;
+ghost use Rattle.rows.specs.RowsInPlace.{RowDone, inRow, plain};
 use factor::Layout;
 use factor::rounding::is_within;
 use factor::run::Outcome;
@@ -17,63 +13,11 @@ use joint::allowances::allowed_at;
 use joint::allowances::is_whole_row;
 use joint::allowances::magnitude_sums_at;
 use rules::Block;
-use rules::Kind;
 use rules::Rule;
-use single::apply_single_row;
-use single::undo_single_row;
-use undone::undo_lower_row;
-use undone::undo_upper_row;
 
-mod applied; // a row under a lower or an upper factor, applied
-mod undone; // the same, undone
-mod single; // a row under single-row factors
-
-// Row i applied in place, by its kind: an element looks at the row's sums, made before, and at its own number. A permutation
-// never comes here.
-pub fn apply_row(
-    rule: Rule,
-    col: &[i32],
-    fa: Layout,
-    row: &[i32],
-    fb: Layout,
-    i: usize,
-    x: &mut [i32; 256],
-) -> Outcome
-    requires { ⌜ RowAsks (now col) fa (now row) fb i (now x) ⌝ }
-    ensures { λ r. ⌜ RowDone bound (plain (appliedOf rule (now (col .entry)) fa (now (row .entry)) fb (now (x .entry))))
-        (inRow (fb .order) i) (fb .order) (now (x .entry)) (now (x .exit)) (r .ok) ⌝ }
-{
-    let kind = fb.kind;
-    match kind {
-        Kind::Lower => return apply_lower_row(rule, col, fa, row, fb, i, x),
-        Kind::Upper => return apply_upper_row(rule, col, fa, row, fb, i, x),
-        Kind::Single => return apply_single_row(rule, col, fa, row, fb, i, x),
-        Kind::Permutation => return Outcome { ok: true, stage: 0 }
-    }
-}
-
-// Row i undone in place, by its kind, in the order of the row sheet's factor.
-pub fn undo_row(
-    rule: Rule,
-    col: &[i32],
-    fa: Layout,
-    row: &[i32],
-    fb: Layout,
-    i: usize,
-    x: &mut [i32; 256],
-) -> Outcome
-    requires { ⌜ RowAsks (now col) fa (now row) fb i (now x) ⌝ }
-    ensures { λ r. ⌜ RowDone bound (undoneOf rule (now (col .entry)) fa (now (row .entry)) fb) (undoneTurn fb i) (fb .order)
-        (now (x .entry)) (now (x .exit)) (r .ok) ⌝ }
-{
-    let kind = fb.kind;
-    match kind {
-        Kind::Lower => return undo_lower_row(rule, col, fa, row, fb, i, x),
-        Kind::Upper => return undo_upper_row(rule, col, fa, row, fb, i, x),
-        Kind::Single => return undo_single_row(rule, col, fa, row, fb, i, x),
-        Kind::Permutation => return Outcome { ok: true, stage: 0 }
-    }
-}
+pub mod applied; // a row under a lower or an upper factor, applied
+pub mod undone; // the same, undone
+pub mod single; // a row under single-row factors
 
 // The allowances of row i in place.
 pub fn allow_row(

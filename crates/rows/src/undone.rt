@@ -11,10 +11,9 @@ ghost use Rattle.rules.specs.declared.Kind.the-variants.{Lower, Upper};
 ghost use Rattle.rules.specs.Numbers.{bound, at};
 ghost use Rattle.factor.specs.Layouts.{rowOf};
 ghost use Rattle.factor.specs.SumBounds.{Bounded};
-ghost use Rattle.factor.specs.LayoutInSheet.{InSheet};
 ghost use Rattle.joint.specs.Sums.{Wide, mostColumn};
 ghost use Rattle.joint.specs.Elements.{undoneOf};
-ghost use Rattle.rows.specs.RowsInPlace.{RowDone, onward};
+ghost use Rattle.rows.specs.RowsInPlace.{RowAsks, RowDone, onward};
 ghost use Rattle.rows.specs.Triangles.{TotalGiven, totalOf};
 ghost use Rattle.rows.specs.TrianglesUndone.{mostOwn, recentOf, UndoGiven, Recovered, undoneTurn};
 use factor::Layout;
@@ -22,10 +21,10 @@ use factor::before_lower;
 use factor::before_upper;
 use factor::rounding::is_within;
 use factor::run::Outcome;
-use joint::elements::rest_sums_at;
 use joint::elements::sign_at;
 use joint::elements::undone_whole;
 use joint::elements::with_diagonal;
+use joint::sums::side_sums;
 use joint::sums::wide_sum;
 use joint::sums::with_sum;
 use rules::Block;
@@ -277,44 +276,53 @@ fn undo_upper_elements(
     undo_upper(rule, col, fa, row, fb, n, i, 0, n, v, x)
 }
 
-// Row i under a lower factor: the sums without it, then its elements.
+// Row i of rows of n under a lower factor: the sums without it, over the rows above it, then its elements.
 pub fn undo_lower_row(
     rule: Rule,
     col: &[i32],
     fa: Layout,
     row: &[i32],
     fb: Layout,
+    n: usize,
     i: usize,
     x: &mut [i32; 256],
 ) -> Outcome
-    requires { ⌜ InSheet (now col) fa × InSheet (now row) fb × (i < fa .order) × (fb .row < fb .order)
-        × Bounded bound (now x) × (length (now x) ≡ 256) × (fb .kind ≡ Lower) ⌝ }
+    requires { ⌜ RowAsks (now col) fa (now row) fb i (now x) × (fb .kind ≡ Lower) × (n ≡ fb .order) ⌝ }
     ensures { λ r. ⌜ RowDone bound (undoneOf rule (now (col .entry)) fa (now (row .entry)) fb) (undoneTurn fb i) (fb .order)
         (now (x .entry)) (now (x .exit)) (r .ok) ⌝ }
 {
-    let n = fb.order;
+    let entries = fa.entries;
     let mut v = [0i64; 16];
-    rest_sums_at(col, fa, i, x, n, &mut v);
+    side_sums(col, entries + before_lower(i), i, x, 0, n, &mut v);
     undo_lower_elements(rule, col, fa, row, fb, i, &mut v, x)
 }
 
-// Row i under an upper factor: the sums without it, then its elements.
+// Row i of rows of n under an upper factor: the sums without it, over the rows below it, then its elements.
 pub fn undo_upper_row(
     rule: Rule,
     col: &[i32],
     fa: Layout,
     row: &[i32],
     fb: Layout,
+    n: usize,
     i: usize,
     x: &mut [i32; 256],
 ) -> Outcome
-    requires { ⌜ InSheet (now col) fa × InSheet (now row) fb × (i < fa .order) × (fb .row < fb .order)
-        × Bounded bound (now x) × (length (now x) ≡ 256) × (fb .kind ≡ Upper) ⌝ }
+    requires { ⌜ RowAsks (now col) fa (now row) fb i (now x) × (fb .kind ≡ Upper) × (n ≡ fb .order) ⌝ }
     ensures { λ r. ⌜ RowDone bound (undoneOf rule (now (col .entry)) fa (now (row .entry)) fb) (undoneTurn fb i) (fb .order)
         (now (x .entry)) (now (x .exit)) (r .ok) ⌝ }
 {
-    let n = fb.order;
+    let entries = fa.entries;
+    let m = fa.order;
     let mut v = [0i64; 16];
-    rest_sums_at(col, fa, i, x, n, &mut v);
+    side_sums(
+        col,
+        entries + before_upper(m, i),
+        m - 1 - i,
+        x,
+        (i + 1) * n,
+        n,
+        &mut v,
+    );
     undo_upper_elements(rule, col, fa, row, fb, i, &mut v, x)
 }
