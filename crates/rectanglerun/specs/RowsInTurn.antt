@@ -11,6 +11,7 @@ use lib.IntN.{ℤ}
 use lib.ListN.{length}
 use Rattle.rules.specs.declared.Kind.the-variants.{Permutation}
 use Rattle.rules.specs.declared.Rule.{Rule}
+use Rattle.rules.specs.Numbers.{bound}
 use Rattle.factor.specs.declared.Layout.{Layout}
 use Rattle.factor.specs.declared.run.Task.{Task}
 use Rattle.factor.specs.Tasks.{limitOf}
@@ -18,7 +19,8 @@ use Rattle.factor.specs.SumBounds.{Bounded}
 use Rattle.factor.specs.LayoutInSheet.{InSheet}
 use Rattle.factor.specs.Steps.{Step, step-stops, step-goes}
 use Rattle.factor.specs.InPlace.{inPlace}
-use Rattle.rows.specs.RowsInPlace.{RowDone, elementOf, rowOrder, row-done-same, element-same, row-stopped, row-passed, no-row}
+use Rattle.rows.specs.RowsInPlace.{RowAsks, RowDone, elementOf, rowOrder, row-done-same, element-same}
+use Rattle.rows.specs.RowsInPlace.{row-stopped, row-passed, no-row}
 use Rattle.rectanglerun.specs.UndoingOrder.{nthRow, pairOrder, weightsOf}
 use Rattle.rectanglerun.specs.UndoingOrder.{nth-row-below, pair-order-permutes, pair-order-row}
 use Rattle.rectanglerun.specs.UndoingOrder.{row-unwritten}
@@ -51,6 +53,20 @@ module _ {task : Task} {c : List ℤ} {fa : Layout} {r : List ℤ} {fb : Layout}
 
   pub no-rows : {rule : Rule} → Rows task rule c fa r fb x 0 x
   no-rows = record { block = no-row _ _ _ _; small = h .small; long = h .long }
+
+  -- what the row of turn s asks
+  pub row-asks : {rule : Rule} {s i : ℕ} {y : List ℤ} → s < fa .order → i ≡ nthRow task fa s → limitOf task ≡ bound →
+      Rows task rule c fa r fb x s y → RowAsks c fa r fb i y
+  row-asks l e b a = record {
+    column = h .column;
+    row = h .row;
+    below = turn-below l e;
+    low = h .low2;
+    small = rw b at (a .small);
+    long = a .long;
+    alike = h .alike;
+    weighs = h .weighs;
+  }
 
   -- the row of turn s, made from the block y as it stands
   module _ {rule : Rule} {s i : ℕ} {y z : List ℤ} {ok : Bool} (l : s < fa .order) (a : Rows task rule c fa r fb x s y)

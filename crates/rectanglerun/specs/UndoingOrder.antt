@@ -10,6 +10,7 @@ use native.Mathlib.Nat as NatL
 use native.Mathlib.Omega.{arith}
 use lib.IntN.{ℤ}
 use Rattle.rules.specs.declared.Rule.{Rule}
+use Rattle.rules.specs.declared.Kind.the-variants.{Lower, Upper}
 use Rattle.rules.specs.Numbers.{at}
 use Rattle.rules.specs.Shapes.{order}
 use Rattle.rules.specs.Laws.GoodStages.{Permutes, same-permutes}
@@ -95,6 +96,24 @@ weightsOf task rule c fa r fb x = inPlace (elementOf task rule c fa r fb x) (pai
 
 abbrev pub weightsBy : Run → List ℤ → Layout → List ℤ → Layout → List ℤ → List ℤ
 weightsBy run c fa r fb x = weightsOf (run .task) (run .rule) c fa r fb x
+
+-- the rows of a triangle in turn
+module _ (f : Layout) (s : ℕ) where
+  pub lower-applied : f .kind ≡ Lower → s < f .order → f .order - 1 - s ≡ nthRow Forward f s
+  unfolding nthRow isInverse nthUndone
+  lower-applied e l = rw e (omega arith)
+
+  pub upper-applied : f .kind ≡ Upper → s < f .order → s ≡ nthRow Forward f s
+  unfolding nthRow isInverse nthUndone
+  upper-applied e l = rw e (omega arith)
+
+  pub lower-undone : f .kind ≡ Lower → s ≡ nthRow Inverse f s
+  unfolding nthRow isInverse nthUndone
+  lower-undone e = rw e
+
+  pub upper-undone : f .kind ≡ Upper → s < f .order → f .order - 1 - s ≡ nthRow Inverse f s
+  unfolding nthRow isInverse nthUndone
+  upper-undone e l = rw e (omega arith)
 
 pub pair-order-row : (task : Task) (f g : Layout) (s u : ℕ) → u < g .order →
     pairOrder task f g (s * g .order + u) ≡ rowOrder task g (nthRow task f s) u

@@ -1,5 +1,7 @@
 // A rectangle's block through the stages of two checked sheets.
-mod steps; // a pair of factors with weights
+mod triangles; // a pair of lower or of upper factors
+mod singles; // a pair of single-row factors
+mod steps; // a pair of factors with weights, by the task and the kind
 mod moves; // a pair of permutations
 mod stages; // one stage: the factors at two places of the sheets
 mod runs; // all stages of two sheets

@@ -4,6 +4,12 @@ ghost use mathlib.Core.Path.{_≡_};
 ghost use Prim.Native.Nat.{_<_};
 ghost use Rattle.rectanglerun.specs.UndoingOrder.{nthRow};
 ghost use Rattle.rectanglerun.specs.RowsInTurn.{Weighable, Weighed};
+use crate::singles::apply_single_rows;
+use crate::singles::undo_single_rows;
+use crate::triangles::apply_lower_rows;
+use crate::triangles::apply_upper_rows;
+use crate::triangles::undo_lower_rows;
+use crate::triangles::undo_upper_rows;
 use factor::Layout;
 use factor::nth_undone;
 use factor::run::Outcome;
@@ -11,13 +17,12 @@ use factor::run::Run;
 use factor::run::Task;
 use factor::run::is_inverse;
 use rows::allow_row;
-use rows::apply_row;
-use rows::undo_row;
+use rules::Kind;
 use rules::Rule;
 
 // The row in turn s. Undone, the rows go in the order of the column sheet's factor; else the row that is undone last comes first,
 // so that no row looks at one written before it.
-fn nth_row(task: Task, fa: Layout, s: usize) -> usize
+pub fn nth_row(task: Task, fa: Layout, s: usize) -> usize
     requires { ⌜ (s < fa .order) × (fa .row < fa .order) ⌝ }
     ensures { λ r. ⌜ r ≡ nthRow task fa s ⌝ }
 {
@@ -28,7 +33,30 @@ fn nth_row(task: Task, fa: Layout, s: usize) -> usize
     nth_undone(fa, n - 1 - s)
 }
 
-// All rows applied, each in its turn. Each task has a loop of its own: one that asks for the task in every turn is slower.
+// All rows applied, by their kind, where rows have n numbers. A permutation never comes here.
+fn apply_kind(
+    rule: Rule,
+    col: &[i32],
+    fa: Layout,
+    row: &[i32],
+    fb: Layout,
+    n: usize,
+    x: &mut [i32; 256],
+) -> Outcome
+    requires { ⌜ Weighable Task.Forward (now col) fa (now row) fb (now x) × (n ≡ fb .order) ⌝ }
+    ensures { λ r. ⌜ Weighed Task.Forward rule (now (col .entry)) fa (now (row .entry)) fb (now (x .entry))
+        (r .ok) (now (x .exit)) ⌝ }
+{
+    let kind = fb.kind;
+    match kind {
+        Kind::Lower => return apply_lower_rows(rule, col, fa, row, fb, n, x),
+        Kind::Upper => return apply_upper_rows(rule, col, fa, row, fb, n, x),
+        Kind::Single => return apply_single_rows(rule, col, fa, row, fb, x),
+        Kind::Permutation => return Outcome { ok: true, stage: 0 }
+    }
+}
+
+// The same; where rows have 4, 8 or 16 numbers the compiler is told so, and writes their sums out.
 fn apply_rows(
     rule: Rule,
     col: &[i32],
@@ -41,18 +69,43 @@ fn apply_rows(
     ensures { λ r. ⌜ Weighed Task.Forward rule (now (col .entry)) fa (now (row .entry)) fb (now (x .entry))
         (r .ok) (now (x .exit)) ⌝ }
 {
-    let n = fa.order;
-    for s in 0..n {
-        let i = nth_row(Task::Forward, fa, s);
-        let r = apply_row(rule, col, fa, row, fb, i, x);
-        if !r.ok {
-            return r;
-        }
+    let n = fb.order;
+    if n == 4 {
+        return apply_kind(rule, col, fa, row, fb, 4, x);
     }
-    Outcome { ok: true, stage: 0 }
+    if n == 8 {
+        return apply_kind(rule, col, fa, row, fb, 8, x);
+    }
+    if n == 16 {
+        return apply_kind(rule, col, fa, row, fb, 16, x);
+    }
+    apply_kind(rule, col, fa, row, fb, n, x)
 }
 
-// All rows undone.
+// All rows undone, by their kind, where rows have n numbers. A permutation never comes here.
+fn undo_kind(
+    rule: Rule,
+    col: &[i32],
+    fa: Layout,
+    row: &[i32],
+    fb: Layout,
+    n: usize,
+    x: &mut [i32; 256],
+) -> Outcome
+    requires { ⌜ Weighable Task.Inverse (now col) fa (now row) fb (now x) × (n ≡ fb .order) ⌝ }
+    ensures { λ r. ⌜ Weighed Task.Inverse rule (now (col .entry)) fa (now (row .entry)) fb (now (x .entry))
+        (r .ok) (now (x .exit)) ⌝ }
+{
+    let kind = fb.kind;
+    match kind {
+        Kind::Lower => return undo_lower_rows(rule, col, fa, row, fb, n, x),
+        Kind::Upper => return undo_upper_rows(rule, col, fa, row, fb, n, x),
+        Kind::Single => return undo_single_rows(rule, col, fa, row, fb, x),
+        Kind::Permutation => return Outcome { ok: true, stage: 0 }
+    }
+}
+
+// The same; where rows have 4, 8 or 16 numbers the compiler is told so, and writes their sums out.
 fn undo_rows(
     rule: Rule,
     col: &[i32],
@@ -65,15 +118,17 @@ fn undo_rows(
     ensures { λ r. ⌜ Weighed Task.Inverse rule (now (col .entry)) fa (now (row .entry)) fb (now (x .entry))
         (r .ok) (now (x .exit)) ⌝ }
 {
-    let n = fa.order;
-    for s in 0..n {
-        let i = nth_row(Task::Inverse, fa, s);
-        let r = undo_row(rule, col, fa, row, fb, i, x);
-        if !r.ok {
-            return r;
-        }
+    let n = fb.order;
+    if n == 4 {
+        return undo_kind(rule, col, fa, row, fb, 4, x);
     }
-    Outcome { ok: true, stage: 0 }
+    if n == 8 {
+        return undo_kind(rule, col, fa, row, fb, 8, x);
+    }
+    if n == 16 {
+        return undo_kind(rule, col, fa, row, fb, 16, x);
+    }
+    undo_kind(rule, col, fa, row, fb, n, x)
 }
 
 // The allowances of all rows.

@@ -2,50 +2,42 @@
 use borrow.Author.Tests.{not-true, not-false}
 use Prim.Native.Nat.{_-_, _≤_}
 use native.Mathlib.Omega.{arith}
-use mathlib.Core.Path.{_≡_}
-use Rattle.factor.specs.declared.run.Task.the-variants.{Forward}
+use mathlib.Core.Path.{_≡_, _∙_}
+use Rattle.factor.specs.declared.run.Task.the-variants.{Inverse}
 use Rattle.factor.specs.Tasks.{limitOf}
 use Rattle.rows.specs.RowsInPlace.{elementOf, rowOrder}
 use Rattle.rectanglerun.specs.RowsInTurn.{Rows, no-rows, turn-below, row-more, row-stops, rows-all}
-use Rattle.rectanglerun.proofs.steps.apply_rows.Statement.{statement}
-use Rattle.rectanglerun.proofs.steps.apply_rows.Tie as tie
+use Rattle.rectanglerun.proofs.singles.undo_single_rows.Statement.{statement}
+use Rattle.rectanglerun.proofs.singles.undo_single_rows.Tie as tie
 
 abbrev Inv-loop : tie.InvT-loop
-Inv-loop rule col fa row fb x₀ n s₀ x s = (s ≤ n) × Rows Forward rule col fa row fb x₀ s x
+Inv-loop rule col fa row fb x₀ n s₀ x s = (s ≤ n) × Rows Inverse rule col fa row fb x₀ s x
 
 abbrev μ-loop : tie.MeasureT-loop
 μ-loop rule col fa row fb x₀ n s₀ x s = n - s
 
 loop-holds : tie.Need-loop-holds Inv-loop μ-loop
-loop-holds c = (omega arith, no-rows (c .pre))
+loop-holds c = (omega arith, no-rows (c .pre .0))
 
 nth-row-requires : tie.Need-nth-row-requires Inv-loop μ-loop
-nth-row-requires c κs = (c .loop-test .taken, c .before .before .pre .low1)
+nth-row-requires c κs = (c .loop-test .taken, c .before .before .pre .0 .low1)
 
-apply-row-requires : tie.Need-apply-row-requires Inv-loop μ-loop
+undo-single-row-requires : tie.Need-undo-single-row-requires Inv-loop μ-loop
 unfolding limitOf
-apply-row-requires c κs =
+undo-single-row-requires c κs =
     let t = c .before .before in
-    let h = t .before .before .pre in
+    let h = t .before .before .pre .0 in
     let a = t .before .loop .inv .1 in
-    record {
-      column = h .column;
-      row = h .row;
-      below = turn-below h (t .loop-test .taken) (c .before .nth-row .ensures);
-      low = h .low2;
-      small = a .small;
-      long = a .long;
-      alike = h .alike;
-      weighs = h .weighs;
-    }
+    let e = t .before .before .pre .1 in
+    (h .column, h .row, turn-below h (t .loop-test .taken) (c .before .nth-row .ensures), h .low2, h .alike ∙ e, e, a .small, a .long)
 
 returns : tie.Need-returns Inv-loop μ-loop
 unfolding limitOf elementOf rowOrder
 returns c =
     let r = c .before .before in
     let t = r .before .before .before in
-    row-stops (t .before .before .pre) (t .loop-test .taken) (t .before .loop .inv .1) (r .before .before .nth-row .ensures)
-    (r .apply-row .ensures) (not-true _ (c .if1 .taken))
+    row-stops (t .before .before .pre .0) (t .loop-test .taken) (t .before .loop .inv .1) (r .before .before .nth-row .ensures)
+    (r .undo-single-row .ensures) (not-true _ (c .if1 .taken))
 
 add-s : tie.Need-add-s Inv-loop μ-loop
 add-s c = omega arith
@@ -58,17 +50,17 @@ unfolding limitOf elementOf rowOrder
 loop-again c =
     let r = c .before .before in
     let t = r .before .before .before in
-    let h = t .before .before .pre in
+    let h = t .before .before .pre .0 in
     let turn = r .before .before .nth-row .ensures in
     let through = not-false _ (c .if1 .left) in
-    (omega arith, row-more h (t .loop-test .taken) (t .before .loop .inv .1) turn (r .apply-row .ensures) through)
+    (omega arith, row-more h (t .loop-test .taken) (t .before .loop .inv .1) turn (r .undo-single-row .ensures) through)
 
 returns-2 : tie.Need-returns-2 Inv-loop μ-loop
 returns-2 c =
     let l = c .before in
     let e : l .loop .s ≡ l .before .args .fa .order = omega arith in rows-all e (l .loop .inv .1)
 
-pub apply-rows-spec : {M : Type 1} → statement M
-apply-rows-spec =
+pub undo-single-rows-spec : {M : Type 1} → statement M
+undo-single-rows-spec =
     tie.close
-    (tie.spec Inv-loop μ-loop loop-holds nth-row-requires apply-row-requires returns add-s loop-less loop-again returns-2)
+    (tie.spec Inv-loop μ-loop loop-holds nth-row-requires undo-single-row-requires returns add-s loop-less loop-again returns-2)
