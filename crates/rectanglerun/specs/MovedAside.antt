@@ -4,7 +4,6 @@ use mathlib.Core.List.{List}
 use mathlib.Core.Path.{_≡_, refl, sym, ap, _∙_}
 use Prim.Native.Nat.{ℕ, _+_, _*_, _/_, _%_, _≤_, _<_}
 use native.Mathlib.Decide.{ℕ-discrete}
-use native.Mathlib.Nat.{mul-le-mul-right}
 use native.Mathlib.Omega.{arith}
 use lib.IntN.{ℤ, pos}
 use lib.ListN.{length}
@@ -62,12 +61,14 @@ module _ (back : Bool) {n1 n2 : ℕ} {p q : ℕ → ℕ} (hp : Permutes n1 p) (h
   next-row {l} {x} {y} {z} below room m e = rw e (record {
     long = length-scattered n2 _ _ z ∙ m .long;
     there = λ i j a b. go i j a b (ℕ-discrete i l);
-    other = λ k a. scattered-other n2 _ _ z k (λ j b f. omega (arith, element-below n1 n2 _ _ (tp .below l below) (tq .below j b)))
-        ∙ m .other k a;
+    other = λ k a. scattered-other n2 _ _ z k (λ j b f. omega (arith, inside j b)) ∙ m .other k a;
   })
     where
       k : ℕ
       k = toOf back p l * n2
+
+      inside : (j : ℕ) → j < n2 → toOf back p l * n2 + toOf back q j < n1 * n2
+      inside j b = element-below n1 n2 _ _ (tp .below l below) (tq .below j b)
 
       g : ℕ → ℤ
       g j = at x (fromOf back p l * n2 + fromOf back q j)
@@ -78,12 +79,14 @@ module _ (back : Bool) {n1 n2 : ℕ} {p q : ℕ → ℕ} (hp : Permutes n1 p) (h
       go i j a b (yes f) =
           rw f
           (scattered-at n2 (λ j. k + toOf back q j) g z
-          (λ m′ d. omega (arith, m .long, element-below n1 n2 _ _ (tp .below l below) (tq .below m′ d)))
+          (λ v d. omega (arith, m .long, inside v d))
           (λ u v d d′ f′ h. apart tq u v d d′ f′ (omega arith))
           j b)
       go i j a b (no f) =
           scattered-other n2 _ _ z _
-          (λ v d h. apart tp i l (omega arith) below f (sym (row-of n1 n2 _ _ (tq .below j b)) ∙ ap (λ (e : ℕ). e / n2) h ∙ row-of n1 n2 _ _ (tq .below v d)))
+          (λ v d h.
+          let same = sym (row-of n1 n2 _ _ (tq .below j b)) ∙ ap (λ (e : ℕ). e / n2) h ∙ row-of n1 n2 _ _ (tq .below v d) in
+          apart tp i l (omega arith) below f same)
           ∙ m .there i j (omega arith) b
 
   -- the whole block over itself: the numbers that were moved from are those of y

@@ -2,5 +2,6 @@
 mod steps; // a pair of factors with weights
 mod moves; // a pair of permutations
 mod stages; // one stage: the factors at two places of the sheets
-mod runs; // all stages of two sheets
+mod runs; // the stages of two sheets, one after another
+mod ends; // the copies in and out, with a permutation that comes first or last
 pub mod block; // a run of one block over two checked sheets

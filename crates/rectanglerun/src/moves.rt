@@ -40,7 +40,7 @@ fn move_row(
     }
 }
 
-// The rows of one block as rows of another, by the column sheet's permutation. n is the order of a row: where it is a literal, the
+// The rows of one block as rows of another, by the column sheet's permutation. Where n, the order of a row, is a literal, the
 // loop over a row is unrolled.
 fn move_rows(
     col: &[i32],

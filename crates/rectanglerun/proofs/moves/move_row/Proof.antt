@@ -8,7 +8,7 @@ use lib.ListN.{length}
 use mir.Syntax.{w32}
 use Rattle.whole.specs.Machine.{back}
 use Rattle.rules.specs.Numbers.{at, count}
-use Rattle.factor.specs.MovedInPlace.{scattered, toOf, fromOf, length-scattered, to-permutes, from-permutes}
+use Rattle.factor.specs.MovedInPlace.{scattered, length-scattered, to-permutes, from-permutes}
 use Rattle.rectanglerun.specs.MovedAside.{movedRow}
 use Rattle.rectanglerun.proofs.moves.move_row.Statement.{statement}
 use Rattle.rectanglerun.proofs.moves.move_row.Tie as tie
