@@ -23,7 +23,7 @@ fn copy_line(x: &[i32], n: usize, k: usize, s: usize, v: &mut [i32; 16])
 }
 
 // Which of two places.
-fn either(first: bool, a: usize, b: usize) -> usize
+pub fn either(first: bool, a: usize, b: usize) -> usize
     ensures { λ r. ⌜ r ≡ cond first a b ⌝ }
 {
     if first {

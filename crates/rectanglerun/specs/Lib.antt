@@ -6,3 +6,4 @@ pub mod Moves
 pub mod MovedAside
 pub mod StagesAgree
 pub mod Runs
+pub mod Turns

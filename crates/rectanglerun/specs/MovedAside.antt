@@ -1,123 +1,124 @@
--- A PAIR OF PERMUTATIONS THROUGH A COPY OF THE BLOCK: where each number comes from stands in two arrays, which are the places of
--- a line, moved as the numbers are to be.
+-- A PAIR OF PERMUTATIONS FROM ONE BLOCK TO ANOTHER, row by row: from a copy of the block, from the lent numbers, into the output.
 use mathlib.Core.Bool.{Bool}
-use mathlib.Core.List.{List, [], _∷_}
-use mathlib.Core.Path.{_≡_, refl, sym, ap, ap₂, _∙_}
-use Prim.Native.Nat.{ℕ, zero, suc, _+_, _*_, _/_, _%_, _≤_, _<_}
+use mathlib.Core.List.{List}
+use mathlib.Core.Path.{_≡_, refl, sym, ap, _∙_}
+use Prim.Native.Nat.{ℕ, _+_, _*_, _/_, _%_, _≤_, _<_}
 use native.Mathlib.Decide.{ℕ-discrete}
-use native.Mathlib.Nat as NatL
 use native.Mathlib.Omega.{arith}
-use lib.IntN.{ℤ, pos, natAbs}
+use lib.IntN.{ℤ, pos}
 use lib.ListN.{length}
-use Rattle.rules.specs.Numbers.{mostOrder, at, count}
+use lib.Seq.{ext-getD}
+use Rattle.rules.specs.Numbers.{at}
+use Rattle.rules.specs.Stages.{fill}
 use Rattle.rules.specs.Laws.GoodStages.{Permutes}
-use Rattle.rules.specs.Laws.Rectangles.{row-below, col-below, element-below}
-use Rattle.laws.specs.Accepted.{Counts}
+use Rattle.rules.specs.Laws.Lists.{length-fill, fill-at, fill-past}
+use Rattle.rules.specs.Laws.Rectangles.{row-below, col-below, element-below, row-of}
+use Rattle.factor.specs.declared.Layout.{Layout}
+use Rattle.factor.specs.LayoutInSheet.{permutationAt}
 use Rattle.factor.specs.InPlace.{apart}
-use Rattle.factor.specs.MovedInPlace.{toOf, fromOf, scattered, movedFrom, movedBy, length-scattered, scattered-other}
-use Rattle.factor.specs.MovedInPlace.{scattered-at, to-permutes, from-permutes}
+use Rattle.factor.specs.MovedInPlace.{toOf, fromOf, scattered, movedBy, length-scattered, scattered-other, scattered-at}
+use Rattle.factor.specs.MovedInPlace.{to-permutes, from-permutes}
 use Rattle.rectanglerun.specs.Moves.{to-is, from-is, all-went}
 
--- n places of a line
-pub record Sources (n : ℕ) (t : List ℤ) : Type 0 where
-  pub counts : (m : ℕ) → m < n → Counts t m
-  pub below : (m : ℕ) → m < n → count t m < n
+-- a row of n numbers, which starts at o in x, moved to the row that starts at k in y
+unfoldable pub movedRow : Bool → ℕ → (ℕ → ℕ) → List ℤ → ℕ → ℕ → List ℤ → List ℤ
+movedRow back n q x o k y = scattered n (λ j. k + toOf back q j) (λ j. at x (o + fromOf back q j)) y
 
--- x before, y after: the first rows are from the copy, by the places of the column and of the line, and no other place changed
-pub record Taken (rows n : ℕ) (column line old x y : List ℤ) : Type 0 where
-  pub long : length y ≡ length x
-  pub there : (i j : ℕ) → i < rows → j < n → at y (i * n + j) ≡ at old (count column i * n + count line j)
-  pub other : (k : ℕ) → rows * n ≤ k → at y k ≡ at x k
+-- y before, z after: the first rows that were taken went from x their way, and no place behind the block changed
+pub record MovedRows (rows : ℕ) (back : Bool) (n1 n2 : ℕ) (p q : ℕ → ℕ) (x y z : List ℤ) : Type 0 where
+  pub long : length z ≡ length y
+  pub there : (i j : ℕ) → i < rows → j < n2 →
+      at z (toOf back p i * n2 + toOf back q j) ≡ at x (fromOf back p i * n2 + fromOf back q j)
+  pub other : (k : ℕ) → n1 * n2 ≤ k → at z k ≡ at y k
 
-pub no-row-taken : {n : ℕ} {column line old x : List ℤ} → Taken 0 n column line old x x
-no-row-taken = record { long = refl; there = λ i j a b. absurd (omega arith); other = λ k l. refl }
+-- all of them, by the permutations of two sheets
+abbrev pub MovedInto : Bool → List ℤ → Layout → List ℤ → Layout → List ℤ → List ℤ → List ℤ → Type 0
+MovedInto back c fa r fb x y z =
+    MovedRows (fa .order) back (fa .order) (fb .order) (permutationAt c fa) (permutationAt r fb) x y z
 
--- one row more
-pub row-taken : {l n : ℕ} {column line old x y z : List ℤ} → (l + 1) * n ≤ length x → Taken l n column line old x y →
-    z ≡ scattered n (λ j. l * n + j) (λ j. at old (count column l * n + count line j)) y →
-    Taken (l + 1) n column line old x z
-row-taken {l} {n} {column} {line} {old} {y} room a e = rw e (record {
-  long = length-scattered n _ _ y ∙ a .long;
-  there = λ i j b d. go i j b d (ℕ-discrete i l);
-  other = λ k g. scattered-other n _ _ y k (λ m d q. omega arith) ∙ a .other k (omega arith);
-})
-  where
-    g : ℕ → ℤ
-    g j = at old (count column l * n + count line j)
+pub no-row : {back : Bool} {n1 n2 : ℕ} {p q : ℕ → ℕ} {x y : List ℤ} → MovedRows 0 back n1 n2 p q x y y
+no-row = record { long = refl; there = λ i j a b. absurd (omega arith); other = λ k l. refl }
 
-    go : (i j : ℕ) → i < l + 1 → j < n → Dec (i ≡ l) →
-        at (scattered n (λ j. l * n + j) g y) (i * n + j) ≡ at old (count column i * n + count line j)
-    go i j b d (yes q) =
-        rw q (scattered-at n (λ j. l * n + j) g y (λ m f. omega (arith, a .long)) (λ m f v w u p. u (omega arith)) j d)
-    go i j b d (no q) =
-        let h : suc i ≤ l = omega arith in
-        scattered-other n _ _ y _ (λ m f p. omega (arith, NatL.mul-le-mul-right n h)) ∙ a .there i j (omega arith) d
+-- what was moved over the front of y, over another list that is the same behind the block
+pub moved-over :
+    {rows : ℕ} {back : Bool} {n1 n2 : ℕ} {p q : ℕ → ℕ} {x y z w : List ℤ} → MovedRows rows back n1 n2 p q x y z →
+    length w ≡ length y → ((k : ℕ) → n1 * n2 ≤ k → at w k ≡ at y k) →
+    MovedRows rows back n1 n2 p q x w z
+moved-over m long same = record { long = m .long ∙ sym long; there = m .there; other = λ k l. m .other k l ∙ sym (same k l) }
 
--- ---- the places of a line, from k on
-unfoldable pub placesFrom : ℕ → ℕ → List ℤ
-placesFrom k zero = []
-placesFrom k (suc n) = pos k ∷ placesFrom (suc k) n
+module _ (back : Bool) {n1 n2 : ℕ} {p q : ℕ → ℕ} (hp : Permutes n1 p) (hq : Permutes n2 q) where
+  tp : Permutes n1 (toOf back p)
+  tp = to-permutes back hp
 
-places-at : (k n m : ℕ) → m < n → at (placesFrom k n) m ≡ pos (k + m)
-unfolding placesFrom
-places-at k zero m l = absurd (omega arith)
-places-at k (suc n) zero l = let e : k ≡ k + 0 = omega arith in ap pos e
-places-at k (suc n) (suc m) l = let e : suc k + m ≡ k + suc m = omega arith in places-at (suc k) n m (omega arith) ∙ ap pos e
+  tq : Permutes n2 (toOf back q)
+  tq = to-permutes back hq
 
--- as they stand in the code
-abbrev pub places : List ℤ
-places = placesFrom 0 16
+  -- one row more
+  pub next-row : {l : ℕ} {x y z w : List ℤ} → l < n1 → n1 * n2 ≤ length y → MovedRows l back n1 n2 p q x y z →
+      w ≡ movedRow back n2 q x (fromOf back p l * n2) (toOf back p l * n2) z →
+      MovedRows (l + 1) back n1 n2 p q x y w
+  unfolding movedRow
+  next-row {l} {x} {y} {z} below room m e = rw e (record {
+    long = length-scattered n2 _ _ z ∙ m .long;
+    there = λ i j a b. go i j a b (ℕ-discrete i l);
+    other = λ k a. scattered-other n2 _ _ z k (λ j b f. omega (arith, inside j b)) ∙ m .other k a;
+  })
+    where
+      k : ℕ
+      k = toOf back p l * n2
 
--- moved by a permutation, they are where the numbers come from
-pub record SourcesBy (back : Bool) (n : ℕ) (p : ℕ → ℕ) (t : List ℤ) : Type 0 where
-  pub sources : Sources n t
-  pub source : (m : ℕ) → m < n → count t (toOf back p m) ≡ fromOf back p m
+      inside : (j : ℕ) → j < n2 → toOf back p l * n2 + toOf back q j < n1 * n2
+      inside j b = element-below n1 n2 _ _ (tp .below l below) (tq .below j b)
 
-pub places-moved :
-    (back : Bool) {n : ℕ} {p : ℕ → ℕ} → n ≤ mostOrder → Permutes n p → (v : List ℤ) → length v ≡ 16 → {t : List ℤ} →
-    t ≡ movedFrom back n p places 0 1 v → SourcesBy back n p t
-unfolding movedFrom
-places-moved back {n} {p} few h v long {t} e = record {
-  sources = record {
-    counts = λ m l. (omega (arith, ap length e ∙ length-scattered n _ _ v), rw (value m l) tt);
-    below = λ m l. rw (value m l) (from-permutes back h .below _ (to .from-below m l));
-  };
-  source = λ m l. ap natAbs (there m l);
-}
-  where
-    to : Permutes n (toOf back p)
-    to = to-permutes back h
+      g : ℕ → ℤ
+      g j = at x (fromOf back p l * n2 + fromOf back q j)
 
-    there : (m : ℕ) → m < n → at t (toOf back p m) ≡ pos (fromOf back p m)
-    there m l =
-        let q : toOf back p m ≡ 0 + toOf back p m * 1 = omega arith in
-        let b = from-permutes back h .below m l in
-        let z : 0 + fromOf back p m ≡ fromOf back p m = omega arith in
-        ap₂ at e q
-        ∙ scattered-at n (λ m. 0 + toOf back p m * 1) _ v (λ i a. omega (arith, to .below i a))
-        (λ i j a c d f. apart to i j a c d (omega arith))
-        m l
-        ∙ places-at 0 16 (fromOf back p m) (omega arith)
-        ∙ ap pos z
+      go : (i j : ℕ) → i < l + 1 → j < n2 → Dec (i ≡ l) →
+          at (scattered n2 (λ j. k + toOf back q j) g z) (toOf back p i * n2 + toOf back q j)
+          ≡ at x (fromOf back p i * n2 + fromOf back q j)
+      go i j a b (yes f) =
+          rw f
+          (scattered-at n2 (λ j. k + toOf back q j) g z
+          (λ v d. omega (arith, m .long, inside v d))
+          (λ u v d d′ f′ h. apart tq u v d d′ f′ (omega arith))
+          j b)
+      go i j a b (no f) =
+          scattered-other n2 _ _ z _
+          (λ v d h.
+          let same = sym (row-of n1 n2 _ _ (tq .below j b)) ∙ ap (λ (e : ℕ). e / n2) h ∙ row-of n1 n2 _ _ (tq .below v d) in
+          apart tp i l (omega arith) below f same)
+          ∙ m .there i j (omega arith) b
 
-    value : (m : ℕ) → m < n → at t m ≡ pos (fromOf back p (to .from m))
-    value m l = rw (to .to-from m l) at (there (to .from m) (to .from-below m l))
+  -- the whole block over itself: the numbers that were moved from are those of y
+  pub into-moved : {x z : List ℤ} (y : List ℤ) → n1 * n2 ≤ length y → ((k : ℕ) → k < n1 * n2 → at x k ≡ at y k) →
+      MovedRows n1 back n1 n2 p q x y z →
+      z ≡ movedBy back (n1 * n2) (λ e. p (e / n2) * n2 + q (e % n2)) y
+  into-moved {x} {z} y room same m =
+      all-went back n1 n2 hp hq y (m .long) room
+      (λ e l.
+      let i = row-below n1 n2 e l in
+      let j = col-below n1 n2 e l in
+      ap (at z) (to-is back n1 n2 hp hq back e)
+      ∙ m .there _ _ i j
+      ∙ same _ (element-below n1 n2 _ _ (from-permutes back hp .below _ i) (from-permutes back hq .below _ j))
+      ∙ ap (at y) (sym (from-is back n1 n2 hp hq back e)))
+      (m .other)
 
--- all rows taken from the copy are the pair of permutations
-pub aside-moved :
-    (back : Bool) (n1 n2 : ℕ) {p q : ℕ → ℕ} (hp : Permutes n1 p) (hq : Permutes n2 q) {column line old : List ℤ} (x : List ℤ)
-    {y : List ℤ} →
-    n1 * n2 ≤ length x → SourcesBy back n1 p column → SourcesBy back n2 q line → ((k : ℕ) → k < n1 * n2 → at old k ≡ at x k) →
-    Taken n1 n2 column line old x y →
-    y ≡ movedBy back (n1 * n2) (λ e. p (e / n2) * n2 + q (e % n2)) x
-aside-moved back n1 n2 {p} {q} hp hq {old} x {y} room s r same a =
-    all-went back n1 n2 hp hq x (a .long) room
-    (λ e l.
-    let i = row-below n1 n2 e l in
-    let j = col-below n1 n2 e l in
-    ap (at y) (to-is back n1 n2 hp hq back e)
-    ∙ a .there _ _ (to-permutes back hp .below _ i) (to-permutes back hq .below _ j)
-    ∙ ap (at old) (ap₂ (λ (u v : ℕ). u * n2 + v) (s .source _ i) (r .source _ j))
-    ∙ same _ (element-below n1 n2 _ _ (from-permutes back hp .below _ i) (from-permutes back hq .below _ j))
-    ∙ ap (at x) (sym (from-is back n1 n2 hp hq back e)))
-    (a .other)
+  -- into an output of the block's length: the front of the block, moved
+  pub moved-out : {x y z : List ℤ} → length y ≡ n1 * n2 → n1 * n2 ≤ length x → MovedRows n1 back n1 n2 p q x y z →
+      z ≡ fill (length y) (at (movedBy back (n1 * n2) (λ e. p (e / n2) * n2 + q (e % n2)) x)) y
+  moved-out {x} {y} {z} long room m =
+      ext-getD (pos 0) _ _ (m .long ∙ sym (length-fill _ _ y))
+      (λ k l.
+      let b : k < n1 * n2 = omega (arith, m .long) in
+      sym (fill-at (n1 * n2) (at z) x k b room)
+      ∙ ap (λ (v : List ℤ). at v k) over
+      ∙ sym (fill-at (length y) _ y k (omega arith) (omega arith)))
+    where
+      over : fill (n1 * n2) (at z) x ≡ movedBy back (n1 * n2) (λ e. p (e / n2) * n2 + q (e % n2)) x
+      over = into-moved {x = x} x room (λ k l. refl) (record {
+        long = length-fill _ _ x;
+        there = λ i j a b.
+            fill-at (n1 * n2) (at z) x _ (element-below n1 n2 _ _ (tp .below i a) (tq .below j b)) room ∙ m .there i j a b;
+        other = λ k l. fill-past _ _ x k l;
+      })

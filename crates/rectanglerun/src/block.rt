@@ -7,11 +7,13 @@ ghost use Rattle.laws.specs.AnswersInTurn.{ranReply};
 ghost use Rattle.sheet.specs.Starts.{Starts};
 ghost use Rattle.factor.specs.Tasks.{inputsOf, numberOf};
 ghost use Rattle.rectanglerun.specs.Runs.{Matched, sizeOf, jointRan};
+use crate::ends::load;
+use crate::ends::stop_of;
+use crate::ends::store;
 use crate::runs::run_stages;
-use factor::block::copy_front;
-use factor::block::finish;
 use factor::bounds::is_inside;
 use factor::run::Run;
+use factor::run::number_of;
 use rules::Answer;
 
 // 11 or 13, or what the run gives in y. For allowances no numbers are lent: the block is all 0, which is where allowances start.
@@ -36,7 +38,12 @@ pub fn run_block(
     }
     let task = run.task;
     let mut b = [0i32; 256];
-    copy_front(x, &mut b, x.len());
-    let r = run_stages(run, col, row, columns, rows, &mut b);
-    finish(task, r, &b, y)
+    let from = load(run, col, row, columns, rows, x, &mut b);
+    let to = stop_of(task, col, columns, from);
+    let r = run_stages(run, col, row, columns, rows, from, to, &mut b);
+    if !r.ok {
+        return Answer::refused(number_of(task), 0, r.stage as u64);
+    }
+    store(run, col, row, columns, rows, to, &b, y);
+    Answer::accepted()
 }

@@ -4,5 +4,6 @@ mod singles; // a pair of single-row factors
 mod steps; // a pair of factors with weights, by the task and the kind
 mod moves; // a pair of permutations
 mod stages; // one stage: the factors at two places of the sheets
-mod runs; // all stages of two sheets
+mod runs; // the stages of two sheets, one after another
+mod ends; // the copies in and out, with a permutation that comes first or last
 pub mod block; // a run of one block over two checked sheets

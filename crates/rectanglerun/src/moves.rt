@@ -1,76 +1,96 @@
-// A pair of permutations, for numbers and allowances alike, in place.
+// A pair of permutations, for numbers and allowances alike: from one block to another, and in place.
 ghost use mathlib.Core.Path.{_≡_};
 ghost use Prim.Native.Nat.{_+_, _*_, _≤_};
 ghost use lib.ListN.{length};
-ghost use Rattle.rules.specs.Numbers.{at, count};
 ghost use Rattle.factor.specs.LayoutInSheet.{Moves, permutationAt};
-ghost use Rattle.factor.specs.MovedInPlace.{scattered, movedBy};
+ghost use Rattle.factor.specs.MovedInPlace.{movedBy};
 ghost use Rattle.factor.specs.Tasks.{isInverse};
 ghost use Rattle.rectanglerun.specs.Moves.{sourceOf, Lines, MovedBySheet};
-ghost use Rattle.rectanglerun.specs.MovedAside.{Sources, SourcesBy, Taken};
+ghost use Rattle.rectanglerun.specs.MovedAside.{movedRow, MovedInto};
 use factor::Layout;
 use factor::block::copy_front;
-use factor::moves::move_from;
+use factor::moves::either;
 use factor::moves::move_line;
 use factor::run::Task;
+use factor::run::is_inverse;
 use sheet::factors::count_at;
 
-// Where each number of a line comes from: the places themselves, moved as the numbers are to be.
-fn sources_of(sheet: &[i32], f: Layout, task: Task, t: &mut [i32; 16])
-    requires { ⌜ Moves (now sheet) f ⌝ }
-    ensures { λ _. ⌜ SourcesBy (isInverse task) (f .order) (permutationAt (now (sheet .entry)) f) (now (t .exit)) ⌝ }
-{
-    let places = [0i32, 1, 2, 3, 4, 5, 6, 7, 8, 9, 10, 11, 12, 13, 14, 15];
-    move_from(sheet, f, task, &places, t, 0, 1);
-}
-
-// A line from a copy of it, which starts at place o: number j is that of place line[j].
-fn take_line(old: &[i32; 64], o: usize, line: &[i32; 16], n: usize, x: &mut [i32], k: usize)
-    requires { ⌜ Sources n (now line) × (o + n ≤ 64) × (k + n ≤ length (now x)) ⌝ }
-    ensures { λ _. ⌜ now (x .exit) ≡ scattered n (λ j. k + j) (λ j. at (now (old .entry)) (o + count (now (line .entry)) j))
+// A row of one block as a row of another, where it starts at place k: applied, place j takes the number of place q(j) from o on;
+// back, the number of j goes to q(j).
+fn move_row(
+    row: &[i32],
+    fb: Layout,
+    n: usize,
+    back: bool,
+    old: &[i32],
+    o: usize,
+    x: &mut [i32],
+    k: usize,
+)
+    requires { ⌜ Moves (now row) fb × (n ≡ fb .order) × (o + n ≤ length (now old)) × (k + n ≤ length (now x)) ⌝ }
+    ensures { λ _. ⌜ now (x .exit) ≡ movedRow back n (permutationAt (now (row .entry)) fb) (now (old .entry)) o k
         (now (x .entry)) ⌝ }
 {
+    let places = fb.signs;
     for j in 0..n {
-        x[k + j] = old[o + count_at(line, j)];
+        let q = count_at(row, places + j);
+        let to = either(back, q, j);
+        let from = either(back, j, q);
+        x[k + to] = old[o + from];
     }
 }
 
-// The rows of a block from a copy of it: row i is row column[i], its numbers by line.
-fn take_rows(
-    old: &[i32; 64],
-    column: &[i32; 16],
-    n1: usize,
-    line: &[i32; 16],
-    n2: usize,
+// The rows of one block as rows of another, by the column sheet's permutation. Where n, the order of a row, is a literal, the
+// loop over a row is unrolled.
+fn move_rows(
+    col: &[i32],
+    fa: Layout,
+    row: &[i32],
+    fb: Layout,
+    n: usize,
+    back: bool,
+    old: &[i32],
     x: &mut [i32],
 )
-    requires { ⌜ Sources n1 (now column) × Sources n2 (now line) × (n1 * n2 ≤ 64) × (n1 * n2 ≤ length (now x)) ⌝ }
-    ensures { λ _. ⌜ Taken n1 n2 (now (column .entry)) (now (line .entry)) (now (old .entry)) (now (x .entry)) (now (x .exit)) ⌝ }
+    requires { ⌜ Moves (now col) fa × Moves (now row) fb × (n ≡ fb .order) × (fa .order * n ≤ length (now old))
+        × (fa .order * n ≤ length (now x)) ⌝ }
+    ensures { λ _. ⌜ MovedInto back (now (col .entry)) fa (now (row .entry)) fb (now (old .entry)) (now (x .entry))
+        (now (x .exit)) ⌝ }
 {
-    for i in 0..n1 {
-        take_line(old, count_at(column, i) * n2, line, n2, x, i * n2);
+    let many = fa.order;
+    let places = fa.signs;
+    for i in 0..many {
+        let p = count_at(col, places + i);
+        let to = either(back, p, i) * n;
+        let from = either(back, i, p) * n;
+        move_row(row, fb, n, back, old, from, x, to);
     }
 }
 
-// The same; the loops over rows of 4 and of 8 are unrolled.
-fn take_block(
-    old: &[i32; 64],
-    column: &[i32; 16],
-    n1: usize,
-    line: &[i32; 16],
-    n2: usize,
+// A block from one slice to the front of another: Y(i,j) = X(p(i),q(j)), or back.
+pub fn move_into(
+    col: &[i32],
+    fa: Layout,
+    row: &[i32],
+    fb: Layout,
+    task: Task,
+    old: &[i32],
     x: &mut [i32],
 )
-    requires { ⌜ Sources n1 (now column) × Sources n2 (now line) × (n1 * n2 ≤ 64) × (n1 * n2 ≤ length (now x)) ⌝ }
-    ensures { λ _. ⌜ Taken n1 n2 (now (column .entry)) (now (line .entry)) (now (old .entry)) (now (x .entry)) (now (x .exit)) ⌝ }
+    requires { ⌜ Moves (now col) fa × Moves (now row) fb × (fa .order * fb .order ≤ length (now old))
+        × (fa .order * fb .order ≤ length (now x)) ⌝ }
+    ensures { λ _. ⌜ MovedInto (isInverse task) (now (col .entry)) fa (now (row .entry)) fb (now (old .entry)) (now (x .entry))
+        (now (x .exit)) ⌝ }
 {
-    if n2 == 4 {
-        return take_rows(old, column, n1, line, 4, x);
+    let n = fb.order;
+    let back = is_inverse(task);
+    if n == 4 {
+        return move_rows(col, fa, row, fb, 4, back, old, x);
     }
-    if n2 == 8 {
-        return take_rows(old, column, n1, line, 8, x);
+    if n == 8 {
+        return move_rows(col, fa, row, fb, 8, back, old, x);
     }
-    take_rows(old, column, n1, line, n2, x)
+    move_rows(col, fa, row, fb, n, back, old, x)
 }
 
 // A block of at most 64 numbers through a copy of it.
@@ -79,15 +99,9 @@ fn move_small(col: &[i32], fa: Layout, row: &[i32], fb: Layout, task: Task, x: &
     ensures { λ _. ⌜ now (x .exit) ≡ movedBy (isInverse task) (fa .order * fb .order)
         (sourceOf (now (col .entry)) fa (now (row .entry)) fb) (now (x .entry)) ⌝ }
 {
-    let n1 = fa.order;
-    let n2 = fb.order;
-    let mut column = [0i32; 16];
-    let mut line = [0i32; 16];
-    sources_of(col, fa, task, &mut column);
-    sources_of(row, fb, task, &mut line);
     let mut old = [0i32; 64];
     copy_front(x, &mut old, 64);
-    take_block(&old, &column, n1, &line, n2, x);
+    move_into(col, fa, row, fb, task, &old, x);
 }
 
 // Lines that each start w places after the one before it, their numbers s apart: the rows of a block, or its columns.

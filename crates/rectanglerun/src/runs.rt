@@ -1,36 +1,40 @@
-// All pairs of factors of two checked sheets that match, one after another, in place on one block.
+// Pairs of factors of two checked sheets that match, one after another, in place on one block.
 ghost use mathlib.Core.Path.{_≡_};
+ghost use Prim.Native.Nat.{_≤_};
 ghost use lib.ListN.{length};
+ghost use Rattle.rules.specs.Numbers.{count};
 ghost use Rattle.sheet.specs.Starts.{Starts};
-ghost use Rattle.factor.specs.PaddedBlocks.{RunEnded};
 ghost use Rattle.factor.specs.SumBounds.{Bounded};
 ghost use Rattle.factor.specs.Tasks.{limitOf};
-ghost use Rattle.rectanglerun.specs.Runs.{Matched, jointRunBy};
+ghost use Rattle.rectanglerun.specs.Runs.{Matched};
+ghost use Rattle.rectanglerun.specs.Turns.{Progress};
 use crate::stages::run_stage;
 use factor::run::Outcome;
 use factor::run::Run;
 use factor::run::nth_start;
 use sheet::factors::count_at;
 
-// First to last, or, for an inverse run, last to first: the block after the last stage, or the stage that is refused.
+// The stages from turn from up to turn to, first to last, or, for an inverse run, last to first: the block after them, or the
+// stage that is refused.
 pub fn run_stages(
     run: Run,
     col: &[i32],
     row: &[i32],
     columns: &[u16; 32],
     rows: &[u16; 32],
+    from: usize,
+    to: usize,
     x: &mut [i32; 256],
 ) -> Outcome
     requires { ⌜ Matched (now col) (now row) × Starts (now col) (now columns) × Starts (now row) (now rows)
-        × Bounded (limitOf (run .task)) (now x) × (length (now x) ≡ 256) ⌝ }
-    ensures { λ r. ⌜ RunEnded (jointRunBy run (now (col .entry)) (now (row .entry)) (now (x .entry))) r (now (x .exit))
+        × (from ≤ to) × (to ≤ count (now col) 1) × Bounded (limitOf (run .task)) (now x) × (length (now x) ≡ 256) ⌝ }
+    ensures { λ r. ⌜ Progress run (now (col .entry)) (now (row .entry)) from to (now (x .entry)) r (now (x .exit))
         × (length (now (x .exit)) ≡ 256) ⌝ }
 {
     let task = run.task;
     let n1 = count_at(col, 0);
     let n2 = count_at(row, 0);
-    let many = count_at(col, 1);
-    for t in 0..many {
+    for t in from..to {
         let i = nth_start(task, col, columns, t);
         let j = nth_start(task, row, rows, t);
         let r = run_stage(run, col, row, n1, n2, i, j, x);

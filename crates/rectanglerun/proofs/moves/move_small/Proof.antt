@@ -1,4 +1,4 @@
--- The rows from the copy are the pair of permutations (`aside-moved`).
+-- The copy moved over the block is the block moved (`into-moved`).
 use borrow.Author.Needs.{needs}
 use mathlib.Core.List.{List}
 use mathlib.Core.Path.{_≡_, ap, _∙_}
@@ -9,15 +9,9 @@ use Rattle.rules.specs.Numbers.{at}
 use Rattle.rules.specs.Laws.Lists.{fill-at}
 use Rattle.factor.specs.Tasks.{isInverse}
 use Rattle.rectanglerun.specs.Moves.{sourceOf}
-use Rattle.rectanglerun.specs.MovedAside.{aside-moved}
+use Rattle.rectanglerun.specs.MovedAside.{into-moved}
 use Rattle.rectanglerun.proofs.moves.move_small.Statement.{statement}
 use Rattle.rectanglerun.proofs.moves.move_small.Tie as tie
-
-sources-of-requires : tie.Need-sources-of-requires
-sources-of-requires c κs = search needs
-
-sources-of-requires-2 : tie.Need-sources-of-requires-2
-sources-of-requires-2 c κs = search needs
 
 slice-aggregate-copy-front : tie.Need-slice-aggregate-copy-front
 slice-aggregate-copy-front c = search needs
@@ -25,36 +19,32 @@ slice-aggregate-copy-front c = search needs
 copy-front-requires : tie.Need-copy-front-requires
 copy-front-requires c κs = search needs
 
-take-block-requires : tie.Need-take-block-requires
-take-block-requires c κs = search needs
+slice-aggregate-move-into : tie.Need-slice-aggregate-move-into
+slice-aggregate-move-into c = search needs
 
--- where the function began
-abbrev S : tie.After-copy-front → tie.Start
-S c = c .before .before .before .before .before .before .before .before
+move-into-requires : tie.Need-move-into-requires
+move-into-requires c κs = search needs
 
 -- the copy has the numbers of the block
 same :
     (c : tie.After-copy-front) (k : ℕ) →
-    let a = S c .args in
+    let a = c .before .before .before .before .args in
     k < a .fa .order * a .fb .order → at (c .copy-front .last .1 .0) k ≡ at (a .x .now) k
 same c k l =
-    let m = S c .pre .2 in
+    let m = c .before .before .before .before .pre .2 in
     ap (λ (v : List ℤ). at v k) (c .copy-front .ensures) ∙ fill-at 64 _ _ k (omega arith) (omega arith)
 
 returns : tie.Need-returns
 unfolding sourceOf
 returns c =
     let b = c .before in
-    let f = b .before .before .before .before .before in
-    let r = f .before .before .before .before in
-    let s = S f in
+    let f = b .before .before .before in
+    let s = f .before .before .before .before in
     let few = s .pre .2 in
-    aside-moved (isInverse (s .args .task)) (s .args .fa .order) (s .args .fb .order) (s .pre .0 .permutes) (s .pre .1 .permutes)
-    (s .args .x .now) (omega (arith, b .take-block-arg .given .0)) (r .before .before .sources-of .ensures)
-    (r .sources-of2 .ensures) (same f) (c .take-block .ensures)
+    into-moved (isInverse (s .args .task)) (s .pre .0 .permutes) (s .pre .1 .permutes) (s .args .x .now)
+    (omega (arith, b .move-into-arg .given .0)) (same f) (c .move-into .ensures)
 
 pub move-small-spec : {M : Type 1} → statement M
 move-small-spec =
     tie.close
-    (tie.spec sources-of-requires sources-of-requires-2 slice-aggregate-copy-front copy-front-requires take-block-requires
-    returns)
+    (tie.spec slice-aggregate-copy-front copy-front-requires slice-aggregate-move-into move-into-requires returns)
