@@ -7,11 +7,11 @@ use Rattle.rules.specs.Calls.{Reply, Plan}
 use Rattle.rules.specs.Strips.{stripAnswer}
 use Rattle.laws.specs.Strips.{StripFits, strip-fits}
 use Rattle.factor.specs.Tasks.{callOf}
-use Rattle.strip.specs.Plans.{planOf, some-numbers}
-use Rattle.strip.specs.Lengths.{sheets-first, lengths-then, strip-stops, strip-goes}
+use Rattle.striprun.specs.Plans.{planOf, some-numbers}
+use Rattle.striprun.specs.Lengths.{sheets-first, lengths-then, strip-stops, strip-goes}
 use borrow.Author.Needs.{needs}
-use Rattle.strip.proofs.runs.run_strip.Statement.{statement}
-use Rattle.strip.proofs.runs.run_strip.Tie as tie
+use Rattle.striprun.proofs.runs.run_strip.Statement.{statement}
+use Rattle.striprun.proofs.runs.run_strip.Tie as tie
 
 abbrev plan : tie.Start → Plan
 plan s = planOf (s .args .shape) (s .args .col .now) (s .args .row .now)

@@ -5,10 +5,10 @@ use Rattle.rules.specs.Answers.{checked, pairChecked}
 use Rattle.rules.specs.Calls.{line, joint}
 use Rattle.laws.specs.Accepted.{accepted-read, order-counts}
 use Rattle.rectanglerun.specs.Runs.{matched, size-most}
-use Rattle.strip.specs.Plans.{planOf}
+use Rattle.striprun.specs.Plans.{planOf}
 use borrow.Author.Needs.{needs}
-use Rattle.strip.proofs.blocks.size_of.Statement.{statement}
-use Rattle.strip.proofs.blocks.size_of.Tie as tie
+use Rattle.striprun.proofs.blocks.size_of.Statement.{statement}
+use Rattle.striprun.proofs.blocks.size_of.Tie as tie
 
 -- the sheets were checked
 one : (c : tie.After-enum-told) → checked (c .before .before .args .col .now) .number ≡ 0

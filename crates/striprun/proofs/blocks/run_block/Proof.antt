@@ -4,9 +4,9 @@ use mathlib.Core.Path.{sym, _∙_}
 use Rattle.rules.specs.Calls.{line, joint}
 use Rattle.laws.specs.Accepted.{accepted-read}
 use Rattle.rectanglerun.specs.Runs.{matched}
-use Rattle.strip.specs.Plans.{planOf, rowSheet, lent-block, block-runs}
-use Rattle.strip.proofs.blocks.run_block.Statement.{statement}
-use Rattle.strip.proofs.blocks.run_block.Tie as tie
+use Rattle.striprun.specs.Plans.{planOf, rowSheet, lent-block, block-runs}
+use Rattle.striprun.proofs.blocks.run_block.Statement.{statement}
+use Rattle.striprun.proofs.blocks.run_block.Tie as tie
 
 enum-told : tie.Need-enum-told
 enum-told c = search needs

@@ -16,8 +16,8 @@ use Rattle.factor.specs.declared.run.Task.the-variants.{Forward, Inverse, Allow
 use Rattle.factor.specs.declared.run.Run.{Run}
 use Rattle.factor.specs.Tasks.{inputsOf, numberOf, ran, callBy, callOf}
 use Rattle.factor.specs.CallAnswers.{NoneLent, run-is-left, lengths-right}
-use Rattle.strip.specs.declared.blocks.Shape.{Shape}
-use Rattle.strip.specs.declared.blocks.Shape.the-variants.{Line, Joint}
+use Rattle.striprun.specs.declared.blocks.Shape.{Shape}
+use Rattle.striprun.specs.declared.blocks.Shape.the-variants.{Line, Joint}
 
 -- a line's plan is that of the column sheet alone
 unfoldable pub planOf : Shape → List ℤ → List ℤ → Plan

@@ -1,10 +1,10 @@
 -- The arms are the cases of the definition.
 use mathlib.Core.Path.{_∙_}
 use borrow.Author.Tests.{eq-eqb, ne-eqb}
-use Rattle.strip.specs.Lengths.{stripLengths}
+use Rattle.striprun.specs.Lengths.{stripLengths}
 use borrow.Author.Needs.{needs}
-use Rattle.strip.proofs.runs.check_strip.Statement.{statement}
-use Rattle.strip.proofs.runs.check_strip.Tie as tie
+use Rattle.striprun.proofs.runs.check_strip.Statement.{statement}
+use Rattle.striprun.proofs.runs.check_strip.Tie as tie
 
 rem-if1 : tie.Need-rem-if1
 rem-if1 c = search needs

@@ -4,7 +4,7 @@ ghost use lib.ListN.{length};
 ghost use Rattle.rules.specs.Calls.{Gives};
 ghost use Rattle.sheet.specs.Starts.{Starts};
 ghost use Rattle.factor.specs.Tasks.{callOf};
-ghost use Rattle.strip.specs.Plans.{planOf, rowSheet, TakesBlocks};
+ghost use Rattle.striprun.specs.Plans.{planOf, rowSheet, TakesBlocks};
 use factor::run::Run;
 use rules::Answer;
 use sheet::check;

@@ -7,11 +7,11 @@ use borrow.Author.Needs.{needs}
 use Rattle.laws.specs.Strips.{block-fits}
 use Rattle.factor.specs.Tasks.{callOf}
 use Rattle.laws.specs.Accepted.{Accepted}
-use Rattle.strip.specs.Plans.{planOf, rowSheet, block-call, sheets-checked}
-use Rattle.strip.specs.BlockLoop.{BlocksDone, none-done, done-long, done-bytes, done-step, all-done, lent-long}
-use Rattle.strip.specs.BlockLoop.{number-small}
-use Rattle.strip.proofs.runs.run_blocks.Statement.{statement}
-use Rattle.strip.proofs.runs.run_blocks.Tie as tie
+use Rattle.striprun.specs.Plans.{planOf, rowSheet, block-call, sheets-checked}
+use Rattle.striprun.specs.BlockLoop.{BlocksDone, none-done, done-long, done-bytes, done-step, all-done, lent-long}
+use Rattle.striprun.specs.BlockLoop.{number-small}
+use Rattle.striprun.proofs.runs.run_blocks.Statement.{statement}
+use Rattle.striprun.proofs.runs.run_blocks.Tie as tie
 
 abbrev Inv-loop : tie.InvT-loop
 Inv-loop shape run col row n x y₀ bytes₀ columns rows k₀ k-end y bytes k =

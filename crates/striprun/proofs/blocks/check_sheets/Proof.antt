@@ -1,9 +1,9 @@
 -- The sheets of each shape.
 use Rattle.rules.specs.Calls.{line, joint}
-use Rattle.strip.specs.Plans.{planOf}
+use Rattle.striprun.specs.Plans.{planOf}
 use borrow.Author.Needs.{needs}
-use Rattle.strip.proofs.blocks.check_sheets.Statement.{statement}
-use Rattle.strip.proofs.blocks.check_sheets.Tie as tie
+use Rattle.striprun.proofs.blocks.check_sheets.Statement.{statement}
+use Rattle.striprun.proofs.blocks.check_sheets.Tie as tie
 
 enum-told : tie.Need-enum-told
 enum-told c = search needs

@@ -1,8 +1,8 @@
 -- Each shape's second sheet was checked (`sheets-checked`).
 use borrow.Author.Needs.{needs}
-use Rattle.strip.specs.Plans.{rowSheet, sheets-checked}
-use Rattle.strip.proofs.blocks.row_starts.Statement.{statement}
-use Rattle.strip.proofs.blocks.row_starts.Tie as tie
+use Rattle.striprun.specs.Plans.{rowSheet, sheets-checked}
+use Rattle.striprun.proofs.blocks.row_starts.Statement.{statement}
+use Rattle.striprun.proofs.blocks.row_starts.Tie as tie
 
 enum-told : tie.Need-enum-told
 enum-told c = search needs
