@@ -8,9 +8,10 @@ use lib.ListN.{length}
 use Rattle.rules.specs.declared.Rule.{Rule}
 use Rattle.rules.specs.Calls.{Plan, line, joint}
 use Rattle.rules.specs.Strips.{StripReply, strip, outputs, bytesOf}
-use Rattle.laws.specs.Accepted.{Accepted, accepted-read, pair-read, accepted-order}
+use Rattle.laws.specs.Accepted.{accepted-read, pair-read, accepted-order}
 use Rattle.laws.specs.AnswersInTurn.{ranReply}
 use Rattle.laws.specs.Strips.{BlockCall, forward-block, inverse-block}
+use Rattle.sheet.specs.Starts.{Starts}
 use Rattle.factor.specs.declared.run.Task.{Task}
 use Rattle.factor.specs.declared.run.Task.the-variants.{Forward, Inverse, Allowance}
 use Rattle.factor.specs.declared.run.Run.{Run}
@@ -24,10 +25,10 @@ unfoldable pub planOf : Shape → List ℤ → List ℤ → Plan
 planOf Line c r = line c
 planOf Joint c r = joint c r
 
--- the sheet whose factors stand beside those of the column sheet
-unfoldable pub rowSheet : Shape → List ℤ → List ℤ → List ℤ
-rowSheet Line c r = c
-rowSheet Joint c r = r
+-- tables that have where the factors of the sheets start. A line has no second sheet.
+unfoldable pub StartsOf : Shape → List ℤ → List ℤ → List ℕ → List ℕ → Type 0
+StartsOf Line c r t u = Starts c t
+StartsOf Joint c r t u = Starts c t × Starts r u
 
 module _ (shape : Shape) (r : Run) (c w : List ℤ) where
   -- what k blocks give, and the strip of that shape and run
@@ -81,10 +82,3 @@ pub some-numbers : (shape : Shape) (c r : List ℤ) → planOf shape c r .sheets
 unfolding planOf line joint
 some-numbers Line c r h = accepted-order (accepted-read c h) .least
 some-numbers Joint c r h = let a = pair-read c r h in mul-le-mul (accepted-order (a .0) .least) (accepted-order (a .1) .least)
-
--- both sheets of a plan were checked
-pub sheets-checked :
-    (shape : Shape) (c r : List ℤ) → planOf shape c r .sheets .number ≡ 0 → Accepted c × Accepted (rowSheet shape c r)
-unfolding planOf rowSheet line joint
-sheets-checked Line c r h = let a = accepted-read c h in (a, a)
-sheets-checked Joint c r h = let a = pair-read c r h in (a .0, a .1)

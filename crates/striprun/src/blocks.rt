@@ -2,15 +2,13 @@
 ghost use mathlib.Core.Path.{_≡_};
 ghost use lib.ListN.{length};
 ghost use Rattle.rules.specs.Calls.{Gives};
-ghost use Rattle.sheet.specs.Starts.{Starts};
 ghost use Rattle.factor.specs.Tasks.{callOf};
-ghost use Rattle.striprun.specs.Plans.{planOf, rowSheet, TakesBlocks};
+ghost use Rattle.striprun.specs.Plans.{planOf, StartsOf, TakesBlocks};
 use factor::run::Run;
 use rules::Answer;
-use sheet::check;
-use sheet::check_pair;
+use sheet::checks::check_pair_starts;
+use sheet::checks::check_starts;
 use sheet::factors::count_at;
-use sheet::factors::starts_of;
 
 // "both shapes": lines over one sheet, or rectangles over two. A line looks at the column sheet alone.
 pub enum Shape {
@@ -18,13 +16,21 @@ pub enum Shape {
     Joint,
 }
 
-// 1 to 9, and 12 for a pair.
-pub fn check_sheets(shape: Shape, col: &[i32], row: &[i32]) -> Answer
-    ensures { λ r. ⌜ r ≡ planOf shape (now (col .entry)) (now (row .entry)) .sheets ⌝ }
+// 1 to 9, and 12 for a pair. If there is none, the tables have where the factors start.
+pub fn check_sheets(
+    shape: Shape,
+    col: &[i32],
+    row: &[i32],
+    columns: &mut [u16; 32],
+    rows: &mut [u16; 32],
+) -> Answer
+    requires { ⌜ (length (now columns) ≡ 32) × (length (now rows) ≡ 32) ⌝ }
+    ensures { λ r. ⌜ (r ≡ planOf shape (now (col .entry)) (now (row .entry)) .sheets)
+        × (r .number ≡ 0 → StartsOf shape (now (col .entry)) (now (row .entry)) (now (columns .exit)) (now (rows .exit))) ⌝ }
 {
     match shape {
-        Shape::Line => return check(col),
-        Shape::Joint => return check_pair(col, row),
+        Shape::Line => return check_starts(col, columns),
+        Shape::Joint => return check_pair_starts(col, row, columns, rows),
     }
 }
 
@@ -36,17 +42,6 @@ pub fn size_of(shape: Shape, col: &[i32], row: &[i32]) -> usize
     match shape {
         Shape::Line => return count_at(col, 0),
         Shape::Joint => return count_at(col, 0) * count_at(row, 0),
-    }
-}
-
-// Where the factors of the second sheet start. A line has no second sheet, and its own serves.
-pub fn row_starts(shape: Shape, col: &[i32], row: &[i32]) -> [u16; 32]
-    requires { ⌜ planOf shape (now col) (now row) .sheets .number ≡ 0 ⌝ }
-    ensures { λ r. ⌜ Starts (rowSheet shape (now (col .entry)) (now (row .entry))) r ⌝ }
-{
-    match shape {
-        Shape::Line => return starts_of(col),
-        Shape::Joint => return starts_of(row),
     }
 }
 
@@ -65,7 +60,7 @@ pub fn run_block(
         × (planOf shape (now col) (now row) .sheets .number ≡ 0)
         × (length (now x) ≡ planOf shape (now col) (now row) .size)
         × (length (now y) ≡ planOf shape (now col) (now row) .size)
-        × Starts (now col) (now columns) × Starts (rowSheet shape (now col) (now row)) (now rows) ⌝ }
+        × StartsOf shape (now col) (now row) (now columns) (now rows) ⌝ }
     ensures { λ a. ⌜ Gives a (now (y .exit))
         (callOf run (planOf shape (now (col .entry)) (now (row .entry))) (now (x .entry)) (now (y .entry))) ⌝ }
 {

@@ -3,17 +3,15 @@ ghost use mathlib.Core.Path.{_≡_};
 ghost use Prim.Native.Nat.{_*_, _<_};
 ghost use lib.ListN.{length};
 ghost use Rattle.rules.specs.Strips.{GivesStrip};
-ghost use Rattle.striprun.specs.Plans.{planOf, outputsBy, bytesBy, stripBy, TakesBlocks};
+ghost use Rattle.striprun.specs.Plans.{planOf, StartsOf, outputsBy, bytesBy, stripBy, TakesBlocks};
 ghost use Rattle.striprun.specs.Lengths.{stripLengths};
 use crate::blocks::Shape;
 use crate::blocks::check_sheets;
-use crate::blocks::row_starts;
 use crate::blocks::run_block;
 use crate::blocks::size_of;
 use factor::lengths::check_length;
 use factor::run::Run;
 use rules::Answer;
-use sheet::factors::starts_of;
 
 // 10: the input is no whole number of blocks of n; then the output, then the bytes.
 fn check_strip(n: usize, x: usize, y: usize, bytes: usize) -> Answer
@@ -35,6 +33,8 @@ fn run_blocks(
     run: Run,
     col: &[i32],
     row: &[i32],
+    columns: &[u16; 32],
+    rows: &[u16; 32],
     n: usize,
     x: &[i32],
     y: &mut [i32],
@@ -44,27 +44,17 @@ fn run_blocks(
         × (planOf shape (now col) (now row) .sheets .number ≡ 0)
         × (n ≡ planOf shape (now col) (now row) .size)
         × (length (now x) ≡ length (now bytes) * n)
-        × (length (now y) ≡ length (now bytes) * n) ⌝ }
+        × (length (now y) ≡ length (now bytes) * n)
+        × StartsOf shape (now col) (now row) (now columns) (now rows) ⌝ }
     ensures { λ _. ⌜ (now (y .exit) ≡ outputsBy shape run (now (col .entry)) (now (row .entry)) (length (now (bytes .entry)))
         (now (x .entry)) (now (y .entry)))
         × (now (bytes .exit) ≡ bytesBy shape run (now (col .entry)) (now (row .entry)) (length (now (bytes .entry)))
         (now (x .entry)) (now (y .entry))) ⌝ }
 {
-    let columns = starts_of(col);
-    let rows = row_starts(shape, col, row);
     for k in 0..bytes.len() {
         let o = k * n;
         let e = o + n;
-        let a = run_block(
-            shape,
-            run,
-            col,
-            row,
-            &columns,
-            &rows,
-            &x[o..e],
-            &mut y[o..e],
-        );
+        let a = run_block(shape, run, col, row, columns, rows, &x[o..e], &mut y[o..e]);
         bytes[k] = a.number as u8;
     }
 }
@@ -83,7 +73,9 @@ pub fn run_strip(
     ensures { λ a. ⌜ GivesStrip a (now (y .exit)) (now (bytes .exit))
         (stripBy shape run (now (col .entry)) (now (row .entry)) (now (x .entry)) (now (y .entry)) (now (bytes .entry))) ⌝ }
 {
-    let a = check_sheets(shape, col, row);
+    let mut columns = [0u16; 32];
+    let mut rows = [0u16; 32];
+    let a = check_sheets(shape, col, row, &mut columns, &mut rows);
     if a.number != 0 {
         return a;
     }
@@ -92,6 +84,6 @@ pub fn run_strip(
     if l.number != 0 {
         return l;
     }
-    run_blocks(shape, run, col, row, n, x, y, bytes);
+    run_blocks(shape, run, col, row, &columns, &rows, n, x, y, bytes);
     l
 }

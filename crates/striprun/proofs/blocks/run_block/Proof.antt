@@ -4,7 +4,7 @@ use mathlib.Core.Path.{sym, _∙_}
 use Rattle.rules.specs.Calls.{line, joint}
 use Rattle.laws.specs.Accepted.{accepted-read}
 use Rattle.rectanglerun.specs.Runs.{matched}
-use Rattle.striprun.specs.Plans.{planOf, rowSheet, lent-block, block-runs}
+use Rattle.striprun.specs.Plans.{planOf, StartsOf, lent-block, block-runs}
 use Rattle.striprun.proofs.blocks.run_block.Statement.{statement}
 use Rattle.striprun.proofs.blocks.run_block.Tie as tie
 
@@ -12,7 +12,7 @@ enum-told : tie.Need-enum-told
 enum-told c = search needs
 
 run-block-requires : tie.Need-run-block-requires
-unfolding planOf line
+unfolding planOf StartsOf line
 run-block-requires c κs =
     let s = c .before .before .before in
     let h = rw (c .before .enum-told .given .1) at (s .pre) in
@@ -38,11 +38,11 @@ enum-told-2 : tie.Need-enum-told-2
 enum-told-2 c = search needs
 
 run-block-requires-2 : tie.Need-run-block-requires-2
-unfolding planOf rowSheet joint
+unfolding planOf StartsOf joint
 run-block-requires-2 c κs =
     let s = c .before .before .before in
     let h = rw (c .before .enum-told2 .given .1) at (s .pre) in
-    (matched _ _ (h .1), h .4, h .5, h .2 ∙ sym (lent-block (s .args .run .task) (s .pre .0) _), h .3)
+    (matched _ _ (h .1), h .4 .0, h .4 .1, h .2 ∙ sym (lent-block (s .args .run .task) (s .pre .0) _), h .3)
 
 same-length-2 : tie.Need-same-length-2
 same-length-2 c = search needs

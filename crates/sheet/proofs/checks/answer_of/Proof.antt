@@ -1,8 +1,8 @@
 -- Accepted at number 0, else refused. Assumes nothing.
 use borrow.Author.Tests.{eq-eqb, ne-eqb}
 use borrow.Author.Needs.{needs}
-use Rattle.sheet.proofs.answer_of.Statement.{statement}
-use Rattle.sheet.proofs.answer_of.Tie as tie
+use Rattle.sheet.proofs.checks.answer_of.Statement.{statement}
+use Rattle.sheet.proofs.checks.answer_of.Tie as tie
 
 accepted-requires : tie.Need-accepted-requires
 accepted-requires c κs = search needs
