@@ -10,15 +10,16 @@ use factor::run::nearest;
 use linerun::block::run_block;
 use rules::Answer;
 use rules::Rule;
+use sheet::checks::check_starts;
 use sheet::factors::count_at;
-use sheet::factors::starts_of;
 
 // 1 to 9, then 10 for the input and for the output, then the run.
 fn call(run: Run, s: &[i32], x: &[i32], y: &mut [i32]) -> Answer
     requires { ⌜ NoneLent (run .task) (now x) ⌝ }
     ensures { λ r. ⌜ Gives r (now (y .exit)) (callOf run (line (now (s .entry))) (now (x .entry)) (now (y .entry))) ⌝ }
 {
-    let a = sheet::check(s);
+    let mut starts = [0u16; 32];
+    let a = check_starts(s, &mut starts);
     if a.number != 0 {
         return a;
     }
@@ -27,7 +28,7 @@ fn call(run: Run, s: &[i32], x: &[i32], y: &mut [i32]) -> Answer
     if l.number != 0 {
         return l;
     }
-    run_block(run, s, &starts_of(s), x, y)
+    run_block(run, s, &starts, x, y)
 }
 
 // Forward: x through the sheet's factors, first to last, into y.

@@ -10,9 +10,8 @@ use factor::run::nearest;
 use rectanglerun::block::run_block;
 use rules::Answer;
 use rules::Rule;
-use sheet::check_pair;
+use sheet::checks::check_pair_starts;
 use sheet::factors::count_at;
-use sheet::factors::starts_of;
 
 // 1 to 9 and 12, then 10 for the input and for the output, then the run.
 fn call(run: Run, col: &[i32], row: &[i32], x: &[i32], y: &mut [i32]) -> Answer
@@ -20,7 +19,9 @@ fn call(run: Run, col: &[i32], row: &[i32], x: &[i32], y: &mut [i32]) -> Answer
     ensures { λ a. ⌜ Gives a (now (y .exit))
         (callOf run (joint (now (col .entry)) (now (row .entry))) (now (x .entry)) (now (y .entry))) ⌝ }
 {
-    let a = check_pair(col, row);
+    let mut columns = [0u16; 32];
+    let mut rows = [0u16; 32];
+    let a = check_pair_starts(col, row, &mut columns, &mut rows);
     if a.number != 0 {
         return a;
     }
@@ -29,7 +30,7 @@ fn call(run: Run, col: &[i32], row: &[i32], x: &[i32], y: &mut [i32]) -> Answer
     if l.number != 0 {
         return l;
     }
-    run_block(run, col, row, &starts_of(col), &starts_of(row), x, y)
+    run_block(run, col, row, &columns, &rows, x, y)
 }
 
 // Forward: x through the pairs of factors, first to last, into y.

@@ -1,7 +1,7 @@
 -- Numbers in a row that were seen one by one. Assumes nothing.
 use mathlib.Core.Bool.{Bool, true, false, _&&_}
 use mathlib.Core.List.{List}
-use mathlib.Core.Path.{_≡_, refl, sym, ap, _∙_}
+use mathlib.Core.Path.{_≡_, refl, sym, _∙_}
 use Prim.Native.Nat.{ℕ, _+_, _≤_, _<_}
 use native.Mathlib.Decide.{ℕ-discrete}
 use native.Mathlib.Omega.{arith}
@@ -10,10 +10,9 @@ use lib.Dec.{eqb}
 use lib.IntN.{ℤ}
 use lib.ListN.{length}
 use Rattle.rules.specs.declared.Item.{Item}
-use Rattle.rules.specs.declared.Item.the-variants.{Sign, Entry}
-use Rattle.rules.specs.Sheets.{on, times, faultOf, one, weights}
+use Rattle.rules.specs.Sheets.{times, faultOf, one}
 use Rattle.laws.specs.Tests.{apart}
-use Rattle.laws.specs.Readers.{Seen, one-fine, then-goes}
+use Rattle.laws.specs.Readers.{Seen, one-fine}
 use Rattle.laws.specs.Accepted.{stretch-of}
 use Rattle.sheet.specs.Quick.{Passes}
 
@@ -42,14 +41,5 @@ fine-more s what p k {a} {f} l e h t =
 
 -- all m were seen
 pub saw-all :
-    (s : List ℤ) (what : Item) (m p : ℕ) → p + m ≤ length s → Saw s what p m → Passes s (times m (one s what)) p m
+    (s : List ℤ) (what : Item) (m p : ℕ) → p + m ≤ length s → Saw s what p m → Passes s (times m (one s what) p) (p + m)
 saw-all s what m p l h = record { next = stretch-of s what m p h .next; room = l }
-
--- signs, then entries
-pub passes-weights :
-    {s : List ℤ} {n m p : ℕ} → Passes s (times n (one s Sign)) p n → Passes s (times m (one s Entry)) (p + n) m →
-    Passes s (weights s n m) p (n + m)
-unfolding weights
-passes-weights {s} {n} {m} {p} a b =
-    let e : p + n + m ≡ p + (n + m) = omega arith in
-    record { next = then-goes (times m (one s Entry)) (a .next) (b .next ∙ ap on e); room = rw e at (b .room) }

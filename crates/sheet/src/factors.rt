@@ -1,16 +1,14 @@
-// Numbers that count something, and where the factors of a sheet stand. Callers have checked the sheet: each `requires`
-// is a field of what the law `accepted-read` gives them, so nothing is read a second time.
+// Numbers that count something, and the kinds of factors. Callers have checked the sheet: each `requires` is a field of what the
+// law `accepted-read` gives them, so nothing is read a second time.
 ghost use mathlib.Core.Path.{_≡_};
-ghost use Prim.Native.Nat.{_+_, _≤_, min};
+ghost use Prim.Native.Nat.{_≤_, min};
 ghost use lib.Dec.{T};
 ghost use lib.IntN.{natAbs};
 ghost use lib.Signed.{nonNeg};
 ghost use Rattle.rules.specs.Numbers.{mostOrder, count};
 ghost use Rattle.rules.specs.Sheets.{kindOf, triangle};
-ghost use Rattle.rules.specs.Factors.{numbers};
 ghost use Rattle.laws.specs.Readers.{Seen};
-ghost use Rattle.laws.specs.Accepted.{Accepted, Counts, FactorRead};
-ghost use Rattle.sheet.specs.Starts.{Starts};
+ghost use Rattle.laws.specs.Accepted.{Counts};
 use rules::Item;
 use rules::Kind;
 
@@ -68,41 +66,4 @@ pub fn triangle_of(n: usize) -> usize
     ensures { λ r. ⌜ r ≡ triangle n ⌝ }
 {
     n * (n - 1) / 2
-}
-
-// How many numbers a factor of order n has, its kind number with them.
-pub fn factor_numbers(n: usize, kind: Kind) -> usize
-    requires { ⌜ (1 ≤ n) × (n ≤ mostOrder) ⌝ }
-    ensures { λ r. ⌜ r ≡ numbers n kind ⌝ }
-{
-    match kind {
-        Kind::Permutation => return 1 + n,
-        Kind::Lower => return 1 + (n + triangle_of(n)),
-        Kind::Upper => return 1 + (n + triangle_of(n)),
-        Kind::Single => return 1 + (1 + (n + (n - 1))),
-    }
-}
-
-// Where the factor after that at i starts.
-pub fn next_factor(sheet: &[i32], n: usize, i: usize) -> usize
-    requires { ⌜ (1 ≤ n) × (n ≤ mostOrder) × FactorRead (now sheet) n i ⌝ }
-    ensures { λ r. ⌜ r ≡ i + numbers n (kindOf (count (now (sheet .entry)) i)) ⌝ }
-{
-    i + factor_numbers(n, kind_at(sheet, i))
-}
-
-// Where each factor starts. The table is made once for a block, so that its factors can be met in either order.
-pub fn starts_of(sheet: &[i32]) -> [u16; 32]
-    requires { ⌜ Accepted (now sheet) ⌝ }
-    ensures { λ r. ⌜ Starts (now (sheet .entry)) r ⌝ }
-{
-    let n = count_at(sheet, 0);
-    let many = count_at(sheet, 1);
-    let mut t = [0u16; 32];
-    let mut i = 2;
-    for f in 0..many {
-        t[f] = i as u16;
-        i = next_factor(sheet, n, i);
-    }
-    t
 }

@@ -1,15 +1,15 @@
-// The readers: each starts at a place and ends at the next one, or at the first fault (1 to 9) and its place. Numbers in a row
-// are tested together first; if any of them has a fault, they are read one by one.
+// The readers: each starts at a place and ends at the next one, or at the first fault (1 to 9) and its place.
 ghost use mathlib.Core.Path.{_≡_};
 ghost use Prim.Native.Nat.{_≤_, _-_};
-ghost use Rattle.rules.specs.Numbers.{mostOrder};
+ghost use lib.ListN.{length};
+ghost use Rattle.rules.specs.Numbers.{mostOrder, count};
 ghost use Rattle.rules.specs.Sheets.{_then_, times, one, weights, body, factor, closed, head, reading};
+ghost use Rattle.laws.specs.Accepted.{Headed};
+ghost use Rattle.sheet.specs.Starts.{Starts};
 use crate::factors::count_at;
 use crate::factors::kind_at;
 use crate::factors::triangle_of;
 use crate::faults::fault_of;
-use crate::quick::are_places;
-use crate::quick::are_weights;
 use rules::Item;
 use rules::Kind;
 use rules::Mark;
@@ -57,32 +57,10 @@ fn read_many(sheet: &[i32], what: Item, m: usize, start: usize) -> Mark
     }
 }
 
-// The n places of a permutation.
-fn read_places(sheet: &[i32], n: usize, i: usize) -> Mark
-    requires { ⌜ n ≤ mostOrder ⌝ }
-    ensures { λ r. ⌜ r ≡ times n (one (now (sheet .entry)) (Item.Place n i)) i ⌝ }
-{
-    if are_places(sheet, n, i) {
-        let next = i + n;
-        return Mark {
-            number: 0,
-            place: next,
-        };
-    }
-    read_many(sheet, Item::Place(n, i), n, i)
-}
-
 // n signs, then m entries.
 fn read_weights(sheet: &[i32], n: usize, m: usize, i: usize) -> Mark
     ensures { λ r. ⌜ r ≡ weights (now (sheet .entry)) n m i ⌝ }
 {
-    if are_weights(sheet, n, m, i) {
-        let next = i + (n + m);
-        return Mark {
-            number: 0,
-            place: next,
-        };
-    }
     let r = read_many(sheet, Item::Sign, n, i);
     if r.number != 0 {
         return r;
@@ -108,7 +86,7 @@ fn read_body(sheet: &[i32], n: usize, kind: Kind, i: usize) -> Mark
     ensures { λ r. ⌜ r ≡ body (now (sheet .entry)) n kind i ⌝ }
 {
     match kind {
-        Kind::Permutation => return read_places(sheet, n, i),
+        Kind::Permutation => return read_many(sheet, Item::Place(n, i), n, i),
         Kind::Lower => return read_weights(sheet, n, triangle_of(n), i),
         Kind::Upper => return read_weights(sheet, n, triangle_of(n), i),
         Kind::Single => return read_single(sheet, n, i),
@@ -126,13 +104,17 @@ fn read_factor(sheet: &[i32], n: usize, i: usize) -> Mark
     read_body(sheet, n, kind_at(sheet, i), r.place)
 }
 
-// The next m factors of order n.
-fn read_factors(sheet: &[i32], n: usize, m: usize, start: usize) -> Mark
-    requires { ⌜ (1 ≤ n) × (n ≤ mostOrder) ⌝ }
-    ensures { λ r. ⌜ r ≡ times m (factor (now (sheet .entry)) n) start ⌝ }
+// All factors of a sheet with a head. Where each starts is written down as it is met.
+fn read_factors(sheet: &[i32], starts: &mut [u16; 32]) -> Mark
+    requires { ⌜ Headed (now sheet) × (length (now starts) ≡ 32) ⌝ }
+    ensures { λ r. ⌜ (r ≡ times (count (now (sheet .entry)) 1) (factor (now (sheet .entry)) (count (now (sheet .entry)) 0)) 2)
+        × (r .number ≡ 0 → Starts (now (sheet .entry)) (now (starts .exit))) ⌝ }
 {
-    let mut i = start;
-    for k in 0..m {
+    let n = count_at(sheet, 0);
+    let many = count_at(sheet, 1);
+    let mut i = 2;
+    for f in 0..many {
+        starts[f] = i as u16;
         let r = read_factor(sheet, n, i);
         if r.number != 0 {
             return r;
@@ -172,14 +154,17 @@ fn read_head(sheet: &[i32]) -> Mark
     read_one(sheet, Item::Count, r.place)
 }
 
-pub fn read_sheet(sheet: &[i32]) -> Mark
-    ensures { λ r. ⌜ r ≡ reading (now (sheet .entry)) ⌝ }
+// A whole sheet. If it has no fault, the table has the starts of its factors.
+pub fn read_sheet(sheet: &[i32], starts: &mut [u16; 32]) -> Mark
+    requires { ⌜ length (now starts) ≡ 32 ⌝ }
+    ensures { λ r. ⌜ (r ≡ reading (now (sheet .entry)))
+        × (r .number ≡ 0 → Starts (now (sheet .entry)) (now (starts .exit))) ⌝ }
 {
     let h = read_head(sheet);
     if h.number != 0 {
         return h;
     }
-    let r = read_factors(sheet, count_at(sheet, 0), count_at(sheet, 1), h.place);
+    let r = read_factors(sheet, starts);
     if r.number != 0 {
         return r;
     }

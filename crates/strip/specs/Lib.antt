@@ -1,4 +1,1 @@
-pub mod Plans
-pub mod Lengths
-pub mod BlockLoop
 pub mod Promises

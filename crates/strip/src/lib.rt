@@ -1,17 +1,13 @@
 // Whole strips: blocks laid end to end, an output of the same length, one byte for each block. The calls ask nothing of their
-// callers:
-// whatever is lent is answered, and a refused strip leaves output and bytes as they were.
+// callers: whatever is lent is answered, and a refused strip leaves output and bytes as they were.
 ghost use Rattle.rules.specs.Calls.{line, joint};
 ghost use Rattle.rules.specs.Strips.{GivesStrip, forwardStrip, inverseStrip};
-use blocks::Shape;
 use factor::run::Task;
 use factor::run::nearest;
 use rules::Answer;
 use rules::Rule;
-use runs::run_strip;
-
-mod blocks; // one block of a strip, of either shape
-mod runs; // the checks, then all blocks
+use striprun::blocks::Shape;
+use striprun::runs::run_strip;
 
 // Each block of x through the sheet's factors, into its part of y.
 pub fn line_forward(s: &[i32], x: &[i32], y: &mut [i32], bytes: &mut [u8]) -> Answer

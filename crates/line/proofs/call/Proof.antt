@@ -9,23 +9,22 @@ use Rattle.factor.specs.CallAnswers.{lengthsOf, sheets-refuse, lengths-refuse, 
 use Rattle.line.proofs.call.Statement.{statement}
 use Rattle.line.proofs.call.Tie as tie
 
-check-requires : tie.Need-check-requires
-check-requires c κs = search needs
-
-returns : tie.Need-returns
-unfolding line
-returns c =
-    let s = c .before .before .before in
-    sheets-refuse (s .args .run) (line (s .args .s .now)) (s .args .x .now) (s .args .y .now) (s .pre)
-    (c .before .before .check .ensures) (c .if1 .taken)
+check-starts-requires : tie.Need-check-starts-requires
+check-starts-requires c κs = search needs
 
 -- what the sheet told
-checks : (c : tie.Else1) → c .before .before .check .result ≡ line (c .before .before .before .args .s .now) .sheets
+checks : (c : tie.After-check-starts) → c .check-starts .result ≡ line (c .before .before .args .s .now) .sheets
 unfolding line
-checks c = c .before .before .check .ensures
+checks c = c .check-starts .ensures .0
 
-fine : (c : tie.Else1) → Accepted (c .before .before .before .args .s .now)
-fine c = accepted-read _ (ap (λ (a : Answer). a .number) (sym (c .before .before .check .ensures)) ∙ c .if1 .left)
+returns : tie.Need-returns
+returns c =
+    let k = c .before .before in
+    let s = k .before .before in
+    sheets-refuse (s .args .run) (line (s .args .s .now)) (s .args .x .now) (s .args .y .now) (s .pre) (checks k) (c .if1 .taken)
+
+fine : (c : tie.Else1) → Accepted (c .before .before .before .before .args .s .now)
+fine c = accepted-read _ (ap (λ (a : Answer). a .number) (sym (c .before .before .check-starts .ensures .0)) ∙ c .if1 .left)
 
 count-at-requires : tie.Need-count-at-requires
 count-at-requires c κs = order-counts (fine c)
@@ -35,7 +34,7 @@ check-lengths-requires c κs = search needs
 
 -- what the lengths told, of the plan's size
 told : (c : tie.After-check-lengths) →
-    let a = c .before .before .before .before .before .args in
+    let a = c .before .before .before .before .before .before .args in
     c .check-lengths .result ≡ lengthsOf (a .run .task) (line (a .s .now) .size) (length (a .x .now)) (length (a .y .now))
 unfolding line
 told c = c .check-lengths .ensures ∙ rw (c .before .count-at .ensures)
@@ -44,21 +43,19 @@ returns-2 : tie.Need-returns-2
 returns-2 c =
     let l = c .before .before in
     let e = l .before .before in
-    let s = e .before .before .before in
-    lengths-refuse (s .args .run) (line (s .args .s .now)) (s .args .x .now) (s .args .y .now) (s .pre) (checks e) (e .if1 .left)
+    let k = e .before .before in
+    let s = k .before .before in
+    lengths-refuse (s .args .run) (line (s .args .s .now)) (s .args .x .now) (s .args .y .now) (s .pre) (checks k) (e .if1 .left)
     (told l) (c .if2 .taken)
-
-starts-of-requires : tie.Need-starts-of-requires
-starts-of-requires c κs = fine (c .before .before .before .before)
 
 run-block-requires : tie.Need-run-block-requires
 unfolding line
 run-block-requires c κs =
-    let d = c .before .before .before in
+    let d = c .before .before in
     let l = d .before .before in
     let e = l .before .before in
     let h = lengths-fine _ _ _ _ (ap (λ (a : Answer). a .number) (sym (told l)) ∙ d .if2 .left) in
-    (fine e, c .before .before .starts-of .ensures, h .0, h .1)
+    (fine e, e .before .before .check-starts .ensures .1 (e .if1 .left), h .0, h .1)
 
 same-length : tie.Need-same-length
 same-length c = search needs
@@ -66,16 +63,17 @@ same-length c = search needs
 returns-3 : tie.Need-returns-3
 unfolding line
 returns-3 c =
-    let d = c .before .before .before .before .before in
+    let d = c .before .before .before .before in
     let l = d .before .before in
     let e = l .before .before in
-    let s = e .before .before .before in
-    rw (run-is-left (s .args .run) (line (s .args .s .now)) (s .args .x .now) (s .args .y .now) (s .pre) (checks e) (e .if1 .left)
+    let k = e .before .before in
+    let s = k .before .before in
+    rw (run-is-left (s .args .run) (line (s .args .s .now)) (s .args .x .now) (s .args .y .now) (s .pre) (checks k) (e .if1 .left)
     (told l) (d .if2 .left))
     (c .before .run-block .ensures)
 
 pub call-spec : {M : Type 1} → statement M
 call-spec =
     tie.close
-    (tie.spec check-requires returns count-at-requires check-lengths-requires returns-2 starts-of-requires
-    run-block-requires same-length returns-3)
+    (tie.spec check-starts-requires returns count-at-requires check-lengths-requires returns-2 run-block-requires same-length
+    returns-3)

@@ -11,26 +11,26 @@ use Rattle.rectanglerun.specs.Runs.{Matched, matched, size-most}
 use Rattle.rectangle.proofs.call.Statement.{statement}
 use Rattle.rectangle.proofs.call.Tie as tie
 
-check-pair-requires : tie.Need-check-pair-requires
-check-pair-requires c κs = search needs
+check-pair-starts-requires : tie.Need-check-pair-starts-requires
+check-pair-starts-requires c κs = search needs
 
 -- the plan that is called
 abbrev P : tie.Start → Plan
 P s = joint (s .args .col .now) (s .args .row .now)
 
 -- what the sheets told
-checks : (c : tie.After-check-pair) → c .check-pair .result ≡ P (c .before) .sheets
+checks : (c : tie.After-check-pair-starts) → c .check-pair-starts .result ≡ P (c .before .before .before) .sheets
 unfolding joint
-checks c = c .check-pair .ensures
+checks c = c .check-pair-starts .ensures .0
 
 returns : tie.Need-returns
 returns c =
     let p = c .before .before in
-    let s = p .before in
+    let s = p .before .before .before in
     sheets-refuse (s .args .run) (P s) (s .args .x .now) (s .args .y .now) (s .pre) (checks p) (c .if1 .taken)
 
-fine : (c : tie.Else1) → let s = c .before .before .before in Matched (s .args .col .now) (s .args .row .now)
-fine c = matched _ _ (ap (λ (a : Answer). a .number) (sym (c .before .before .check-pair .ensures)) ∙ c .if1 .left)
+fine : (c : tie.Else1) → let s = c .before .before .before .before .before in Matched (s .args .col .now) (s .args .row .now)
+fine c = matched _ _ (ap (λ (a : Answer). a .number) (sym (c .before .before .check-pair-starts .ensures .0)) ∙ c .if1 .left)
 
 count-at-requires : tie.Need-count-at-requires
 count-at-requires c κs = order-counts (fine c .column)
@@ -47,7 +47,7 @@ check-lengths-requires c κs = search needs
 
 -- what the lengths told, of the plan's size
 told : (c : tie.After-check-lengths) →
-    let s = c .before .before .before .before .before .before in
+    let s = c .before .before .before .before .before .before .before .before in
     c .check-lengths .result ≡ lengthsOf (s .args .run .task) (P s .size) (length (s .args .x .now)) (length (s .args .y .now))
 unfolding joint
 told c = c .check-lengths .ensures ∙ rw (c .before .before .count-at .ensures, c .before .count-at2 .ensures)
@@ -57,24 +57,19 @@ returns-2 c =
     let l = c .before .before in
     let e = l .before .before .before in
     let p = e .before .before in
-    let s = p .before in
+    let s = p .before .before .before in
     lengths-refuse (s .args .run) (P s) (s .args .x .now) (s .args .y .now) (s .pre) (checks p) (e .if1 .left) (told l)
     (c .if2 .taken)
-
-starts-of-requires : tie.Need-starts-of-requires
-starts-of-requires c κs = fine (c .before .before .before .before .before) .column
-
-starts-of-requires-2 : tie.Need-starts-of-requires-2
-starts-of-requires-2 c κs = fine (c .before .before .before .before .before .before .before) .row
 
 run-block-requires : tie.Need-run-block-requires
 unfolding joint
 run-block-requires c κs =
-    let d = c .before .before .before .before .before in
+    let d = c .before .before .before in
     let l = d .before .before in
     let e = l .before .before .before in
+    let t = e .before .before .check-pair-starts .ensures .1 (e .if1 .left) in
     let h = lengths-fine _ _ _ _ (ap (λ (a : Answer). a .number) (sym (told l)) ∙ d .if2 .left) in
-    (fine e, c .before .before .before .before .starts-of .ensures, c .before .before .starts-of2 .ensures, h .0, h .1)
+    (fine e, t .0, t .1, h .0, h .1)
 
 same-length : tie.Need-same-length
 same-length c = search needs
@@ -82,11 +77,11 @@ same-length c = search needs
 returns-3 : tie.Need-returns-3
 unfolding joint
 returns-3 c =
-    let d = c .before .before .before .before .before .before .before in
+    let d = c .before .before .before .before .before in
     let l = d .before .before in
     let e = l .before .before .before in
     let p = e .before .before in
-    let s = p .before in
+    let s = p .before .before .before in
     rw (run-is-left (s .args .run) (P s) (s .args .x .now) (s .args .y .now) (s .pre) (checks p) (e .if1 .left) (told l)
     (d .if2 .left))
     (c .before .run-block .ensures)
@@ -94,5 +89,5 @@ returns-3 c =
 pub call-spec : {M : Type 1} → statement M
 call-spec =
     tie.close
-    (tie.spec check-pair-requires returns count-at-requires count-at-requires-2 mul-check-lengths check-lengths-requires
-    returns-2 starts-of-requires starts-of-requires-2 run-block-requires same-length returns-3)
+    (tie.spec check-pair-starts-requires returns count-at-requires count-at-requires-2 mul-check-lengths check-lengths-requires
+    returns-2 run-block-requires same-length returns-3)

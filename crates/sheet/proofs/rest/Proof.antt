@@ -23,20 +23,20 @@ to-end l a = take-all (length l - a) (drop a l) (le-of-eq (length-drop a l))
 placed : (s : List ℤ) {r : Mark} → r ≡ reading s → r .place ≤ length s
 placed s e = rw e (reading-inside s)
 
-read-sheet-requires : tie.Need-read-sheet-requires
-read-sheet-requires c κs = search needs
+read-whole-requires : tie.Need-read-whole-requires
+read-whole-requires c κs = search needs
 
 mul-result : tie.Need-mul-result
 mul-result c =
-    let h = placed (c .before .before .before .args .col .now) (c .before .before .read-sheet .ensures) in
+    let h = placed (c .before .before .before .args .col .now) (c .before .before .read-whole .ensures) in
     search needs
 
 sub-result : tie.Need-sub-result
-sub-result c = placed (c .before .before .before .args .col .now) (c .before .before .read-sheet .ensures)
+sub-result c = placed (c .before .before .before .args .col .now) (c .before .before .read-whole .ensures)
 
 part-result-start : tie.Need-part-result-start
 part-result-start c =
-    let h = placed (c .before .before .before .args .col .now) (c .before .before .read-sheet .ensures) in
+    let h = placed (c .before .before .before .args .col .now) (c .before .before .read-whole .ensures) in
     search needs
 
 part-result-end : tie.Need-part-result-end
@@ -46,26 +46,26 @@ returns : tie.Need-returns
 unfolding IsRest
 returns c =
     let d = c .before .before .before in
-    rw (sym (d .read-sheet .ensures), ne-eqb _ 0 (c .before .if1 .taken))
-    (record { block = refl; offset = add-comm _ _; list = to-end (d .before .args .col .now) (d .read-sheet .result .place) })
+    rw (sym (d .read-whole .ensures), ne-eqb _ 0 (c .before .if1 .taken))
+    (record { block = refl; offset = add-comm _ _; list = to-end (d .before .args .col .now) (d .read-whole .result .place) })
 
-read-sheet-requires-2 : tie.Need-read-sheet-requires-2
-read-sheet-requires-2 c κs = search needs
+read-whole-requires-2 : tie.Need-read-whole-requires-2
+read-whole-requires-2 c κs = search needs
 
 mul-result-2 : tie.Need-mul-result-2
 mul-result-2 c =
     let h = placed (c .before .before .before .before .before .before .args .row .now)
-    (c .before .before .read-sheet2 .ensures) in
+    (c .before .before .read-whole2 .ensures) in
     search needs
 
 sub-result-2 : tie.Need-sub-result-2
 sub-result-2 c =
-    placed (c .before .before .before .before .before .before .args .row .now) (c .before .before .read-sheet2 .ensures)
+    placed (c .before .before .before .before .before .before .args .row .now) (c .before .before .read-whole2 .ensures)
 
 part-result-start-2 : tie.Need-part-result-start-2
 part-result-start-2 c =
     let h = placed (c .before .before .before .before .before .before .args .row .now)
-    (c .before .before .read-sheet2 .ensures) in
+    (c .before .before .read-whole2 .ensures) in
     search needs
 
 part-result-end-2 : tie.Need-part-result-end-2
@@ -77,13 +77,13 @@ returns-2 c =
     let e = c .before .before .before in
     let d = e .before .before .before in
     rw (
-      sym (d .read-sheet .ensures),
+      sym (d .read-whole .ensures),
       eq-eqb _ 0 (e .before .if1 .left),
-      sym (e .read-sheet2 .ensures),
+      sym (e .read-whole2 .ensures),
       ne-eqb _ 0
           (c .before .if2 .taken),
     )
-    (record { block = refl; offset = add-comm _ _; list = to-end (d .before .args .row .now) (e .read-sheet2 .result .place) })
+    (record { block = refl; offset = add-comm _ _; list = to-end (d .before .args .row .now) (e .read-whole2 .result .place) })
 
 mul-result-3 : tie.Need-mul-result-3
 mul-result-3 c = search needs
@@ -103,9 +103,9 @@ returns-3 c =
     let e = c .before .before .before in
     let d = e .before .before .before in
     rw (
-      sym (d .read-sheet .ensures),
+      sym (d .read-whole .ensures),
       eq-eqb _ 0 (e .before .if1 .left),
-      sym (e .read-sheet2 .ensures),
+      sym (e .read-whole2 .ensures),
       eq-eqb _ 0
           (c .before .if2 .left),
     )
@@ -119,6 +119,6 @@ returns-3 c =
 pub rest-spec : {M : Type 1} → statement M
 rest-spec =
     tie.close
-    (tie.spec read-sheet-requires mul-result sub-result part-result-start part-result-end returns read-sheet-requires-2
+    (tie.spec read-whole-requires mul-result sub-result part-result-start part-result-end returns read-whole-requires-2
     mul-result-2 sub-result-2 part-result-start-2 part-result-end-2 returns-2 mul-result-3 sub-result-3 part-result-start-3
     part-result-end-3 returns-3)

@@ -1,6 +1,6 @@
 -- The strip of this shape and task.
 use Rattle.factor.specs.Tasks.{callBy}
-use Rattle.strip.specs.Plans.{planOf, TakesBlocks}
+use Rattle.striprun.specs.Plans.{planOf, TakesBlocks}
 use borrow.Author.Needs.{needs}
 use Rattle.strip.proofs.joint_inverse.Statement.{statement}
 use Rattle.strip.proofs.joint_inverse.Tie as tie

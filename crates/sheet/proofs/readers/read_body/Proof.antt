@@ -8,12 +8,12 @@ use Rattle.sheet.proofs.readers.read_body.Tie as tie
 enum-told : tie.Need-enum-told
 enum-told c = search needs
 
-read-places-requires : tie.Need-read-places-requires
-read-places-requires c κs = search needs
+read-many-requires : tie.Need-read-many-requires
+read-many-requires c κs = search needs
 
 returns : tie.Need-returns
 unfolding body
-returns c = rw (c .before .enum-told .given .1) (c .read-places .ensures)
+returns c = rw (c .before .enum-told .given .1) (c .read-many .ensures)
 
 enum-told-2 : tie.Need-enum-told-2
 enum-told-2 c = search needs
@@ -54,5 +54,5 @@ returns-4 c = rw (c .before .enum-told4 .given .1) (c .read-single .ensures)
 pub read-body-spec : {M : Type 1} → statement M
 read-body-spec =
     tie.close
-    (tie.spec enum-told read-places-requires returns enum-told-2 triangle-of-requires read-weights-requires returns-2 enum-told-3
+    (tie.spec enum-told read-many-requires returns enum-told-2 triangle-of-requires read-weights-requires returns-2 enum-told-3
     triangle-of-requires-2 read-weights-requires-2 returns-3 enum-told-4 read-single-requires returns-4)

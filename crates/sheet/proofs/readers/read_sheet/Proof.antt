@@ -1,12 +1,13 @@
--- The head; if it has no fault the factors, of an order from 1 to 16; then the end. Assumes nothing.
-use mathlib.Core.Path.{_≡_, sym, ap, _∙_}
+-- The head; if it has no fault the factors; then the end. Assumes nothing.
+use mathlib.Core.Path.{_≡_, refl, sym, ap, _∙_}
 use mathlib.Core.List.{List}
 use lib.IntN.{ℤ}
 use borrow.Author.Needs.{needs}
 use Rattle.rules.specs.declared.Mark.{Mark}
-use Rattle.rules.specs.Sheets.{reading, head}
-use Rattle.laws.specs.Readers.{stops, goes}
-use Rattle.laws.specs.Accepted.{Headed, headed, order-ranged, count-ranged}
+use Rattle.rules.specs.Numbers.{count}
+use Rattle.rules.specs.Sheets.{on, _then_, times, factor, head, reading}
+use Rattle.laws.specs.Readers.{then-on, stops, goes}
+use Rattle.laws.specs.Accepted.{Headed, headed, head-next, upToEnd}
 use Rattle.sheet.proofs.readers.read_sheet.Statement.{statement}
 use Rattle.sheet.proofs.readers.read_sheet.Tie as tie
 
@@ -18,32 +19,29 @@ read-head-requires c κs = search needs
 
 returns : tie.Need-returns
 unfolding reading
-returns c = let e = c .before .before .read-head .ensures in stops _ (stops _ e (c .if1 .taken)) (c .if1 .taken)
-
-count-at-requires : tie.Need-count-at-requires
-count-at-requires c κs =
-    let h = headed-by (c .before .before .read-head .ensures) (c .if1 .left) in
-    (h .order .there, order-ranged (h .order) .natural)
-
-count-at-requires-2 : tie.Need-count-at-requires-2
-count-at-requires-2 c κs =
-    let d = c .before in
-    let h = headed-by (d .before .before .read-head .ensures) (d .if1 .left) in
-    (h .count .there, count-ranged (h .count) .natural)
+returns c =
+    let e = c .before .before .read-head .ensures in
+    (stops _ (stops _ e (c .if1 .taken)) (c .if1 .taken), λ z. absurd (c .if1 .taken z))
 
 read-factors-requires : tie.Need-read-factors-requires
 read-factors-requires c κs =
+    let d = c .before in
+    (headed-by (d .before .before .read-head .ensures) (d .if1 .left), d .before .before .before .pre)
+
+-- the head ends at place 2, where the factors begin
+read :
+    (c : tie.After-read-factors) → c .read-factors .result ≡ upToEnd (c .before .before .before .before .before .args .sheet .now)
+read c =
     let d = c .before .before in
-    let h = order-ranged (headed-by (d .before .before .read-head .ensures) (d .if1 .left) .order) in
-    rw (c .before .count-at .ensures) (h .least, h .most)
+    let s = d .before .before .before .args .sheet .now in
+    let k = times (count s 1) (factor s (count s 0)) in
+    let e = head-next (headed-by (d .before .before .read-head .ensures) (d .if1 .left)) in
+    c .read-factors .ensures .0 ∙ sym (ap (λ (m : Mark). m then k) e ∙ then-on (on 2) k refl)
 
 returns-2 : tie.Need-returns-2
 unfolding reading
 returns-2 c =
-    let f = c .before .before in
-    let d = f .before .before .before in
-    let g = rw (f .before .count-at2 .ensures, f .before .before .count-at .ensures) at (f .read-factors .ensures) in
-    stops _ (goes _ (d .before .before .read-head .ensures) (d .if1 .left) g) (c .if2 .taken)
+    (stops _ (read (c .before .before)) (c .if2 .taken), λ z. absurd (c .if2 .taken z))
 
 read-end-requires : tie.Need-read-end-requires
 read-end-requires c κs = search needs
@@ -51,13 +49,11 @@ read-end-requires c κs = search needs
 returns-3 : tie.Need-returns-3
 unfolding reading
 returns-3 c =
-    let f = c .before .before .before in
-    let d = f .before .before .before in
-    let g = rw (f .before .count-at2 .ensures, f .before .before .count-at .ensures) at (f .read-factors .ensures) in
-    goes _ (goes _ (d .before .before .read-head .ensures) (d .if1 .left) g) (c .before .if2 .left) (c .read-end .ensures)
+    let t = c .before in
+    let f = t .before .before in
+    (goes _ (read f) (t .if2 .left) (c .read-end .ensures), λ z. f .read-factors .ensures .1 (t .if2 .left))
 
 pub read-sheet-spec : {M : Type 1} → statement M
 read-sheet-spec =
     tie.close
-    (tie.spec read-head-requires returns count-at-requires count-at-requires-2 read-factors-requires returns-2 read-end-requires
-    returns-3)
+    (tie.spec read-head-requires returns read-factors-requires returns-2 read-end-requires returns-3)

@@ -1,0 +1,71 @@
+// One block of a strip, of either shape, over sheets that were checked.
+ghost use mathlib.Core.Path.{_≡_};
+ghost use lib.ListN.{length};
+ghost use Rattle.rules.specs.Calls.{Gives};
+ghost use Rattle.factor.specs.Tasks.{callOf};
+ghost use Rattle.striprun.specs.Plans.{planOf, StartsOf, TakesBlocks};
+use factor::run::Run;
+use rules::Answer;
+use sheet::checks::check_pair_starts;
+use sheet::checks::check_starts;
+use sheet::factors::count_at;
+
+// "both shapes": lines over one sheet, or rectangles over two. A line looks at the column sheet alone.
+pub enum Shape {
+    Line,
+    Joint,
+}
+
+// 1 to 9, and 12 for a pair. If there is none, the tables have where the factors start.
+pub fn check_sheets(
+    shape: Shape,
+    col: &[i32],
+    row: &[i32],
+    columns: &mut [u16; 32],
+    rows: &mut [u16; 32],
+) -> Answer
+    requires { ⌜ (length (now columns) ≡ 32) × (length (now rows) ≡ 32) ⌝ }
+    ensures { λ r. ⌜ (r ≡ planOf shape (now (col .entry)) (now (row .entry)) .sheets)
+        × (r .number ≡ 0 → StartsOf shape (now (col .entry)) (now (row .entry)) (now (columns .exit)) (now (rows .exit))) ⌝ }
+{
+    match shape {
+        Shape::Line => return check_starts(col, columns),
+        Shape::Joint => return check_pair_starts(col, row, columns, rows),
+    }
+}
+
+// How many numbers a block has.
+pub fn size_of(shape: Shape, col: &[i32], row: &[i32]) -> usize
+    requires { ⌜ planOf shape (now col) (now row) .sheets .number ≡ 0 ⌝ }
+    ensures { λ r. ⌜ r ≡ planOf shape (now (col .entry)) (now (row .entry)) .size ⌝ }
+{
+    match shape {
+        Shape::Line => return count_at(col, 0),
+        Shape::Joint => return count_at(col, 0) * count_at(row, 0),
+    }
+}
+
+// The single call: its output into y, and its answer.
+pub fn run_block(
+    shape: Shape,
+    run: Run,
+    col: &[i32],
+    row: &[i32],
+    columns: &[u16; 32],
+    rows: &[u16; 32],
+    x: &[i32],
+    y: &mut [i32],
+) -> Answer
+    requires { ⌜ TakesBlocks (run .task)
+        × (planOf shape (now col) (now row) .sheets .number ≡ 0)
+        × (length (now x) ≡ planOf shape (now col) (now row) .size)
+        × (length (now y) ≡ planOf shape (now col) (now row) .size)
+        × StartsOf shape (now col) (now row) (now columns) (now rows) ⌝ }
+    ensures { λ a. ⌜ Gives a (now (y .exit))
+        (callOf run (planOf shape (now (col .entry)) (now (row .entry))) (now (x .entry)) (now (y .entry))) ⌝ }
+{
+    match shape {
+        Shape::Line => return linerun::block::run_block(run, col, columns, x, y),
+        Shape::Joint => return rectanglerun::block::run_block(run, col, row, columns, rows, x, y),
+    }
+}
