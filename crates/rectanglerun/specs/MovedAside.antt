@@ -8,17 +8,34 @@ use native.Mathlib.Omega.{arith}
 use lib.IntN.{ℤ, pos}
 use lib.ListN.{length}
 use lib.Seq.{ext-getD}
-use Rattle.rules.specs.Numbers.{at}
+use Rattle.rules.specs.declared.Kind.the-variants.{Permutation}
+use Rattle.rules.specs.Numbers.{at, count}
+use Rattle.rules.specs.Sheets.{kindOf}
 use Rattle.rules.specs.Stages.{fill}
 use Rattle.rules.specs.Laws.GoodStages.{Permutes}
 use Rattle.rules.specs.Laws.Lists.{length-fill, fill-at, fill-past}
 use Rattle.rules.specs.Laws.Rectangles.{row-below, col-below, element-below, row-of}
-use Rattle.factor.specs.declared.Layout.{Layout}
-use Rattle.factor.specs.LayoutInSheet.{permutationAt}
+use Rattle.laws.specs.Accepted.{FactorRead, Counts, place-counts}
+use Rattle.laws.specs.Sound.{places-permute}
 use Rattle.factor.specs.InPlace.{apart}
 use Rattle.factor.specs.MovedInPlace.{toOf, fromOf, scattered, movedBy, length-scattered, scattered-other, scattered-at}
 use Rattle.factor.specs.MovedInPlace.{to-permutes, from-permutes}
 use Rattle.rectanglerun.specs.Moves.{to-is, from-is, all-went}
+
+-- a permutation of order n whose places stand in a sheet from place i on
+abbrev pub placeAt : List ℤ → ℕ → ℕ → ℕ
+placeAt s i m = count s (i + m)
+
+pub record Places (s : List ℤ) (i n : ℕ) : Type 0 where
+  pub counts : (m : ℕ) → m < n → Counts s (i + m)
+  pub permutes : Permutes n (placeAt s i)
+
+-- they follow the kind number of a checked factor
+pub places-after : {s : List ℤ} {n i : ℕ} → FactorRead s n i → kindOf (count s i) ≡ Permutation → Places s (i + 1) n
+places-after h q = record {
+  counts = λ m b. place-counts (h .body .places q .each m b);
+  permutes = places-permute (h .body .places q);
+}
 
 -- a row of n numbers, which starts at o in x, moved to the row that starts at k in y
 unfoldable pub movedRow : Bool → ℕ → (ℕ → ℕ) → List ℤ → ℕ → ℕ → List ℤ → List ℤ
@@ -31,10 +48,9 @@ pub record MovedRows (rows : ℕ) (back : Bool) (n1 n2 : ℕ) (p q : ℕ → ℕ
       at z (toOf back p i * n2 + toOf back q j) ≡ at x (fromOf back p i * n2 + fromOf back q j)
   pub other : (k : ℕ) → n1 * n2 ≤ k → at z k ≡ at y k
 
--- all of them, by the permutations of two sheets
-abbrev pub MovedInto : Bool → List ℤ → Layout → List ℤ → Layout → List ℤ → List ℤ → List ℤ → Type 0
-MovedInto back c fa r fb x y z =
-    MovedRows (fa .order) back (fa .order) (fb .order) (permutationAt c fa) (permutationAt r fb) x y z
+-- all of them, by the permutations of two sheets, whose places stand from p and from q on
+abbrev pub MovedInto : Bool → List ℤ → ℕ → ℕ → List ℤ → ℕ → ℕ → List ℤ → List ℤ → List ℤ → Type 0
+MovedInto back c p n1 r q n2 x y z = MovedRows n1 back n1 n2 (placeAt c p) (placeAt r q) x y z
 
 pub no-row : {back : Bool} {n1 n2 : ℕ} {p q : ℕ → ℕ} {x y : List ℤ} → MovedRows 0 back n1 n2 p q x y y
 no-row = record { long = refl; there = λ i j a b. absurd (omega arith); other = λ k l. refl }

@@ -3,7 +3,7 @@
 use mathlib.Core.Bool.{Bool, true, false}
 use mathlib.Core.List.{List}
 use mathlib.Core.Path.{_≡_, refl, sym, ap, _∙_}
-use Prim.Native.Nat.{ℕ, _+_, _-_, _≤_, _<_}
+use Prim.Native.Nat.{ℕ, _+_, _-_, _*_, _/_, _%_, _≤_, _<_}
 use native.Mathlib.Omega.{arith}
 use lib.IntN.{ℤ, pos}
 use lib.ListN.{length, replicate}
@@ -11,18 +11,18 @@ use Rattle.rules.specs.declared.Answer.{Answer}
 use Rattle.rules.specs.declared.Kind.the-variants.{Permutation}
 use Rattle.rules.specs.Numbers.{bound, at, count}
 use Rattle.rules.specs.Sheets.{kindOf}
+use Rattle.rules.specs.Factors.{signsAt}
 use Rattle.rules.specs.Stages.{Ran, done, beyond, fill, inside}
 use Rattle.rules.specs.Answers.{start, accepted, refused}
 use Rattle.rules.specs.Calls.{Gives, ranMemory}
 use Rattle.rules.specs.Laws.Lists.{length-fill, fill-at, fill-past}
 use Rattle.rules.specs.Laws.Runs.{loop-start}
-use Rattle.factor.specs.declared.Layout.{Layout}
 use Rattle.factor.specs.declared.run.Task.{Task}
 use Rattle.factor.specs.declared.run.Task.the-variants.{Forward, Inverse, Allowance}
 use Rattle.factor.specs.declared.run.Run.{Run}
 use Rattle.factor.specs.declared.run.Outcome.{Outcome}
 use Rattle.factor.specs.Layouts.{layoutBy, layoutAt, isMove}
-use Rattle.factor.specs.LayoutInSheet.{Moves, moves, move-yes}
+use Rattle.factor.specs.LayoutInSheet.{move-yes}
 use Rattle.factor.specs.SumBounds.{Bounded}
 use Rattle.factor.specs.Tasks.{isInverse, limitOf, inputsOf, nthStage, takenBy, stage-below}
 use Rattle.factor.specs.MovedInPlace.{movedBy, moved-bounded}
@@ -31,7 +31,7 @@ use Rattle.factor.specs.RunReplies.{start-bounded}
 use Rattle.factor.specs.Steps.{step-goes}
 use Rattle.factor.specs.StageLoops.{Stands, stage-passes, stages-done}
 use Rattle.rectanglerun.specs.Moves.{sourceOf}
-use Rattle.rectanglerun.specs.MovedAside.{MovedInto, moved-over, into-moved, moved-out}
+use Rattle.rectanglerun.specs.MovedAside.{placeAt, Places, places-after, MovedInto, moved-over, into-moved, moved-out}
 use Rattle.rectanglerun.specs.StagesAgree.{Paired, moves-are}
 use Rattle.rectanglerun.specs.Runs.{Matched, paired, sizeOf, size-most, jointRunBy, at-stage, left, left-listed, left-all}
 
@@ -73,8 +73,7 @@ movesInTurn c task t = isMove (kindOf (count c (start c (inTurn c task t))))
 
 abbrev pub MovedInTurn : Task → List ℤ → List ℤ → ℕ → List ℤ → List ℤ → List ℤ → Type 0
 MovedInTurn task c r t x y z =
-    MovedInto (isInverse task) c (layoutAt c (count c 0) (start c (inTurn c task t))) r
-    (layoutAt r (count r 0) (start r (inTurn c task t))) x y z
+    MovedInto (isInverse task) c (start c (inTurn c task t) + 1) (count c 0) r (start r (inTurn c task t) + 1) (count r 0) x y z
 
 -- where the loop ends: after the last stage, or before it, if it moves numbers
 pub record StopsAt (c : List ℤ) (task : Task) (from to : ℕ) : Type 0 where
@@ -118,30 +117,30 @@ module _ {c r : List ℤ} (m : Matched c r) (run : Run) where
     abbrev T : ℕ
     T = inTurn c (run .task) t
 
-    abbrev fa : Layout
-    fa = layoutAt c (count c 0) (start c T)
-
-    abbrev fb : Layout
-    fb = layoutAt r (count r 0) (start r T)
-
     pair : Paired c r (count c 0) (count r 0) (start c (inTurn c (run .task) t)) (start r (inTurn c (run .task) t))
     pair = paired m T (stage-below (run .task) (count c 1) t l) refl refl refl refl
 
     kind : kindOf (count c (start c (inTurn c (run .task) t))) ≡ Permutation
     kind = move-yes _ q
 
-    pub column-moves : Moves c (layoutAt c (count c 0) (start c (inTurn c (run .task) t)))
-    column-moves = moves (pair .most1) (pair .column) kind
+    row-kind : kindOf (count r (start r (inTurn c (run .task) t))) ≡ Permutation
+    row-kind = sym (pair .match) ∙ kind
 
-    pub row-moves : Moves r (layoutAt r (count r 0) (start r (inTurn c (run .task) t)))
-    row-moves = moves (pair .most2) (pair .row) (sym (pair .match) ∙ kind)
+    pub column-places : Places c (start c (inTurn c (run .task) t) + 1) (count c 0)
+    column-places = places-after (pair .column) kind
+
+    pub row-places : Places r (start r (inTurn c (run .task) t) + 1) (count r 0)
+    row-places = places-after (pair .row) row-kind
 
     -- what the stage makes of a block
     abbrev made : List ℤ → List ℤ
     made v = takenBy run (sizeOf c r) (at-stage c r T) v
 
-    made-is : (v : List ℤ) → movedBy (isInverse (run .task)) (sizeOf c r) (sourceOf c fa r fb) v ≡ made v
-    made-is v = moves-are c r _ _ _ _ (pair .match) kind run v
+    made-is : (v : List ℤ) →
+        movedBy (isInverse (run .task)) (sizeOf c r)
+        (λ e. placeAt c (start c T + 1) (e / count r 0) * count r 0 + placeAt r (start r T + 1) (e % count r 0)) v ≡ made v
+    unfolding sourceOf layoutAt layoutBy signsAt
+    made-is v = rw (kind, row-kind) at (moves-are c r (count c 0) (count r 0) (start c T) (start r T) (pair .match) kind run v)
 
     -- the run goes on after it: moved numbers stay in bound
     moves-on : {ran : Ran} {v : List ℤ} → StandsAt run c r ran t v → StandsAt run c r ran (t + 1) (made v)
@@ -152,9 +151,8 @@ module _ {c r : List ℤ} (m : Matched c r) (run : Run) where
     -- from the lent numbers over zeros it is the stage of the block in its room
     moved-in : {x b : List ℤ} → length x ≡ sizeOf c r → MovedInTurn (run .task) c r t x (replicate 256 (pos 0)) b →
         b ≡ made (paddedBlock 256 x)
-    unfolding layoutAt layoutBy sourceOf
     moved-in {x} {b} long h =
-        into-moved (isInverse (run .task)) (column-moves .permutes) (row-moves .permutes) w room front
+        into-moved (isInverse (run .task)) (column-places .permutes) (row-places .permutes) w room front
         (moved-over h (length-fill _ _ zs) behind)
         ∙ made-is w
         ∙ ap made (load-is 256 x few)
@@ -181,13 +179,14 @@ module _ {c r : List ℤ} (m : Matched c r) (run : Run) where
     pub stores-moved : {v y z : List ℤ} → t + 1 ≡ count c 1 → length v ≡ 256 → length y ≡ sizeOf c r →
         MovedInTurn (run .task) c r t v y z →
         Stored run c r t v y z
-    unfolding layoutAt layoutBy sourceOf
-    stores-moved {v} {y} last lv ly h ran s = record {
-      block = made v;
-      ends = stages-done (left-listed c r (run .task)) (rw last at (moves-on s));
-      written = moved-out (isInverse (run .task)) (column-moves .permutes) (row-moves .permutes) ly (omega (arith, size-most m)) h
-          ∙ ap (λ (u : List ℤ). fill (length y) (at u) y) (made-is v);
-    }
+    stores-moved {v} {y} last lv ly h ran s =
+        let room : sizeOf c r ≤ length v = omega (arith, size-most m) in
+        record {
+          block = made v;
+          ends = stages-done (left-listed c r (run .task)) (rw last at (moves-on s));
+          written = moved-out (isInverse (run .task)) (column-places .permutes) (row-places .permutes) ly room h
+              ∙ ap (λ (u : List ℤ). fill (length y) (at u) y) (made-is v);
+        }
 
   -- the copy in, with the first stage and without it
   pub loads-moved : (l : 0 < count c 1) (q : movesInTurn c (run .task) 0 ≡ true) {x b : List ℤ} → length x ≡ sizeOf c r →

@@ -31,7 +31,7 @@ fn is_moving(task: Task, sheet: &[i32], starts: &[u16; 32], t: usize) -> bool
     is_move(layout_at(sheet, n, i))
 }
 
-// The pair of permutations in turn t, from one slice to the front of another.
+// The pair of permutations in turn t, from one slice to the front of another. Places follow the kind number.
 fn move_in_turn(
     run: Run,
     col: &[i32],
@@ -53,9 +53,7 @@ fn move_in_turn(
     let n2 = count_at(row, 0);
     let i = nth_start(task, col, columns, t);
     let j = nth_start(task, row, rows, t);
-    let fa = layout_at(col, n1, i);
-    let fb = layout_at(row, n2, j);
-    move_into(col, fa, row, fb, task, old, x);
+    move_into(col, i + 1, n1, row, j + 1, n2, task, old, x);
 }
 
 // The lent numbers into a block of zeros, and how many stages that made. Allowances lend no numbers.

@@ -2,11 +2,11 @@
 ghost use mathlib.Core.Path.{_≡_};
 ghost use Prim.Native.Nat.{_+_, _*_, _≤_};
 ghost use lib.ListN.{length};
-ghost use Rattle.factor.specs.LayoutInSheet.{Moves, permutationAt};
+ghost use Rattle.factor.specs.LayoutInSheet.{Moves};
 ghost use Rattle.factor.specs.MovedInPlace.{movedBy};
 ghost use Rattle.factor.specs.Tasks.{isInverse};
 ghost use Rattle.rectanglerun.specs.Moves.{sourceOf, Lines, MovedBySheet};
-ghost use Rattle.rectanglerun.specs.MovedAside.{movedRow, MovedInto};
+ghost use Rattle.rectanglerun.specs.MovedAside.{Places, placeAt, movedRow, MovedInto};
 use factor::Layout;
 use factor::block::copy_front;
 use factor::moves::either;
@@ -16,10 +16,10 @@ use factor::run::is_inverse;
 use sheet::factors::count_at;
 
 // A row of one block as a row of another, where it starts at place k: applied, place j takes the number of place q(j) from o on;
-// back, the number of j goes to q(j).
+// back, the number of j goes to q(j). The n places of a permutation stand in its sheet, from place q on.
 fn move_row(
     row: &[i32],
-    fb: Layout,
+    q: usize,
     n: usize,
     back: bool,
     old: &[i32],
@@ -27,70 +27,67 @@ fn move_row(
     x: &mut [i32],
     k: usize,
 )
-    requires { ⌜ Moves (now row) fb × (n ≡ fb .order) × (o + n ≤ length (now old)) × (k + n ≤ length (now x)) ⌝ }
-    ensures { λ _. ⌜ now (x .exit) ≡ movedRow back n (permutationAt (now (row .entry)) fb) (now (old .entry)) o k
-        (now (x .entry)) ⌝ }
+    requires { ⌜ Places (now row) q n × (o + n ≤ length (now old)) × (k + n ≤ length (now x)) ⌝ }
+    ensures { λ _. ⌜ now (x .exit) ≡ movedRow back n (placeAt (now (row .entry)) q) (now (old .entry)) o k (now (x .entry)) ⌝ }
 {
-    let places = fb.signs;
     for j in 0..n {
-        let q = count_at(row, places + j);
-        let to = either(back, q, j);
-        let from = either(back, j, q);
+        let place = count_at(row, q + j);
+        let to = either(back, place, j);
+        let from = either(back, j, place);
         x[k + to] = old[o + from];
     }
 }
 
-// The rows of one block as rows of another, by the column sheet's permutation. Where n, the order of a row, is a literal, the
-// loop over a row is unrolled.
+// The rows of one block as rows of another, by the column sheet's permutation. Where n2 is a literal, the loop over a row is
+// unrolled.
 fn move_rows(
     col: &[i32],
-    fa: Layout,
+    p: usize,
+    n1: usize,
     row: &[i32],
-    fb: Layout,
-    n: usize,
+    q: usize,
+    n2: usize,
     back: bool,
     old: &[i32],
     x: &mut [i32],
 )
-    requires { ⌜ Moves (now col) fa × Moves (now row) fb × (n ≡ fb .order) × (fa .order * n ≤ length (now old))
-        × (fa .order * n ≤ length (now x)) ⌝ }
-    ensures { λ _. ⌜ MovedInto back (now (col .entry)) fa (now (row .entry)) fb (now (old .entry)) (now (x .entry))
+    requires { ⌜ Places (now col) p n1 × Places (now row) q n2 × (n1 * n2 ≤ length (now old)) × (n1 * n2 ≤ length (now x)) ⌝ }
+    ensures { λ _. ⌜ MovedInto back (now (col .entry)) p n1 (now (row .entry)) q n2 (now (old .entry)) (now (x .entry))
         (now (x .exit)) ⌝ }
 {
-    let many = fa.order;
-    let places = fa.signs;
-    for i in 0..many {
-        let p = count_at(col, places + i);
-        let to = either(back, p, i) * n;
-        let from = either(back, i, p) * n;
-        move_row(row, fb, n, back, old, from, x, to);
+    for i in 0..n1 {
+        let place = count_at(col, p + i);
+        let to = either(back, place, i) * n2;
+        let from = either(back, i, place) * n2;
+        move_row(row, q, n2, back, old, from, x, to);
     }
 }
 
-// A block from one slice to the front of another: Y(i,j) = X(p(i),q(j)), or back.
+// A block from one slice to the front of another: Y(i,j) = X(p(i),q(j)), or back. It takes no layouts: they would lie on the
+// stack of whoever calls it.
 pub fn move_into(
     col: &[i32],
-    fa: Layout,
+    p: usize,
+    n1: usize,
     row: &[i32],
-    fb: Layout,
+    q: usize,
+    n2: usize,
     task: Task,
     old: &[i32],
     x: &mut [i32],
 )
-    requires { ⌜ Moves (now col) fa × Moves (now row) fb × (fa .order * fb .order ≤ length (now old))
-        × (fa .order * fb .order ≤ length (now x)) ⌝ }
-    ensures { λ _. ⌜ MovedInto (isInverse task) (now (col .entry)) fa (now (row .entry)) fb (now (old .entry)) (now (x .entry))
-        (now (x .exit)) ⌝ }
+    requires { ⌜ Places (now col) p n1 × Places (now row) q n2 × (n1 * n2 ≤ length (now old)) × (n1 * n2 ≤ length (now x)) ⌝ }
+    ensures { λ _. ⌜ MovedInto (isInverse task) (now (col .entry)) p n1 (now (row .entry)) q n2 (now (old .entry))
+        (now (x .entry)) (now (x .exit)) ⌝ }
 {
-    let n = fb.order;
     let back = is_inverse(task);
-    if n == 4 {
-        return move_rows(col, fa, row, fb, 4, back, old, x);
+    if n2 == 4 {
+        return move_rows(col, p, n1, row, q, 4, back, old, x);
     }
-    if n == 8 {
-        return move_rows(col, fa, row, fb, 8, back, old, x);
+    if n2 == 8 {
+        return move_rows(col, p, n1, row, q, 8, back, old, x);
     }
-    move_rows(col, fa, row, fb, n, back, old, x)
+    move_rows(col, p, n1, row, q, n2, back, old, x)
 }
 
 // A block of at most 64 numbers through a copy of it.
@@ -101,7 +98,17 @@ fn move_small(col: &[i32], fa: Layout, row: &[i32], fb: Layout, task: Task, x: &
 {
     let mut old = [0i32; 64];
     copy_front(x, &mut old, 64);
-    move_into(col, fa, row, fb, task, &old, x);
+    move_into(
+        col,
+        fa.signs,
+        fa.order,
+        row,
+        fb.signs,
+        fb.order,
+        task,
+        &old,
+        x,
+    );
 }
 
 // Lines that each start w places after the one before it, their numbers s apart: the rows of a block, or its columns.

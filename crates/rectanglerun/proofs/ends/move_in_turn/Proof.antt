@@ -1,15 +1,16 @@
--- The layouts are those of the factors in turn, which are permutations (`column-moves`, `row-moves`).
+-- The places are those of the factors in turn (`column-places`, `row-places`).
 use borrow.Author.Needs.{needs}
 use mathlib.Core.Path.{_≡_, _∙_}
-use Rattle.rules.specs.Numbers.{count}
+use Prim.Native.Nat.{_+_}
+use native.Mathlib.Omega.{arith}
 use Rattle.rules.specs.Answers.{start}
 use Rattle.laws.specs.Accepted.{order-counts}
 use Rattle.laws.specs.Sound.{counts-agree}
-use Rattle.factor.specs.Layouts.{layoutBy, layoutAt}
 use Rattle.factor.specs.Tasks.{stage-below}
+use Rattle.rectanglerun.specs.MovedAside.{Places}
 use Rattle.rectanglerun.specs.StagesAgree.{Paired}
 use Rattle.rectanglerun.specs.Runs.{paired}
-use Rattle.rectanglerun.specs.Turns.{inTurn, column-moves, row-moves}
+use Rattle.rectanglerun.specs.Turns.{inTurn, column-places, row-places}
 use Rattle.rectanglerun.proofs.ends.move_in_turn.Statement.{statement}
 use Rattle.rectanglerun.proofs.ends.move_in_turn.Tie as tie
 
@@ -43,47 +44,52 @@ pair c =
     paired (s .pre .0) _ (stage-below (s .args .run .task) _ _ (s .pre .3)) (n .before .count-at .ensures)
     (n .count-at2 .ensures) (c .before .nth-start .ensures) (row-start c)
 
-layout-at-requires : tie.Need-layout-at-requires
-layout-at-requires c κs = pair c .column
+-- the places of the permutations
+column :
+    (c : tie.After-nth-start2) →
+    let n = c .before .before in
+    Places (n .before .before .args .col .now) (c .before .nth-start .result + 1) (n .before .count-at .result)
+column c =
+    let n = c .before .before in
+    let s = n .before .before in
+    rw (c .before .nth-start .ensures, n .before .count-at .ensures)
+    (column-places (s .pre .0) (s .args .run) _ (s .pre .3) (s .pre .4))
 
-layout-at-requires-2 : tie.Need-layout-at-requires-2
-layout-at-requires-2 c κs = pair (c .before) .row
+row :
+    (c : tie.After-nth-start2) →
+    let n = c .before .before in
+    Places (n .before .before .args .row .now) (c .nth-start2 .result + 1) (n .count-at2 .result)
+row c =
+    let n = c .before .before in
+    let s = n .before .before in
+    rw (row-start c, n .count-at2 .ensures) (row-places (s .pre .0) (s .args .run) _ (s .pre .3) (s .pre .4))
 
--- their layouts
-column-layout :
-    (c : tie.After-layout-at) →
-    let a = c .before .before .before .before .before .args in
-    c .layout-at .result ≡ layoutAt (a .col .now) (count (a .col .now) 0)
-    (start (a .col .now) (inTurn (a .col .now) (a .run .task) (a .t)))
-column-layout c =
-    let i = c .before .before in c .layout-at .ensures ∙ rw (i .nth-start .ensures, i .before .before .count-at .ensures)
+add-move-into : tie.Need-add-move-into
+add-move-into c = let h = pair c .column .kind .there in omega arith
 
-row-layout :
-    (c : tie.After-layout-at2) →
-    let a = c .before .before .before .before .before .before .args in
-    c .layout-at2 .result ≡ layoutAt (a .row .now) (count (a .row .now) 0)
-    (start (a .row .now) (inTurn (a .col .now) (a .run .task) (a .t)))
-row-layout c =
-    let j = c .before .before in c .layout-at2 .ensures ∙ rw (row-start j, j .before .before .count-at2 .ensures)
+add-move-into-2 : tie.Need-add-move-into-2
+add-move-into-2 c = let h = pair c .row .kind .there in omega arith
 
 move-into-requires : tie.Need-move-into-requires
-unfolding layoutAt layoutBy
 move-into-requires c κs =
-    let b = c .before in
-    let s = b .before .before .before .before .before .before in
-    let p = s .pre in
-    rw (column-layout (b .before), row-layout b)
-    (column-moves (p .0) (s .args .run) _ (p .3) (p .4), row-moves (p .0) (s .args .run) _ (p .3) (p .4), p .5, p .6)
+    let j = c .before in
+    let n = j .before .before in
+    let p = n .before .before .pre in
+    let e = n .before .count-at .ensures in
+    let f = n .count-at2 .ensures in (column j, row j, rw (e, f) (p .5), rw (e, f) (p .6))
 
 same-length : tie.Need-same-length
 same-length c = search needs
 
 returns : tie.Need-returns
 returns c =
-    let b = c .before .before .before in rw (column-layout (b .before), row-layout b) at (c .before .move-into .ensures)
+    let j = c .before .before .before in
+    let n = j .before .before in
+    rw (j .before .nth-start .ensures, row-start j, n .before .count-at .ensures, n .count-at2 .ensures) at
+    (c .before .move-into .ensures)
 
 pub move-in-turn-spec : {M : Type 1} → statement M
 move-in-turn-spec =
     tie.close
-    (tie.spec count-at-requires count-at-requires-2 nth-start-requires nth-start-requires-2 layout-at-requires
-    layout-at-requires-2 move-into-requires same-length returns)
+    (tie.spec count-at-requires count-at-requires-2 nth-start-requires nth-start-requires-2 add-move-into add-move-into-2
+    move-into-requires same-length returns)
