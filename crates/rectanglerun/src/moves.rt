@@ -13,7 +13,7 @@ use factor::block::copy_front;
 use factor::moves::move_from;
 use factor::moves::move_line;
 use factor::run::Task;
-use sheet::factors::count_at;
+use sheetread::factors::count_at;
 
 // Where each number of a line comes from: the places themselves, moved as the numbers are to be.
 fn sources_of(sheet: &[i32], f: Layout, task: Task, t: &mut [i32; 16])

@@ -1,7 +1,7 @@
 // All pairs of factors of two checked sheets that match, one after another, in place on one block.
 ghost use mathlib.Core.Path.{_≡_};
 ghost use lib.ListN.{length};
-ghost use Rattle.sheet.specs.Starts.{Starts};
+ghost use Rattle.sheetread.specs.Starts.{Starts};
 ghost use Rattle.factor.specs.PaddedBlocks.{RunEnded};
 ghost use Rattle.factor.specs.SumBounds.{Bounded};
 ghost use Rattle.factor.specs.Tasks.{limitOf};
@@ -10,7 +10,7 @@ use crate::stages::run_stage;
 use factor::run::Outcome;
 use factor::run::Run;
 use factor::run::nth_start;
-use sheet::factors::count_at;
+use sheetread::factors::count_at;
 
 // First to last, or, for an inverse run, last to first: the block after the last stage, or the stage that is refused.
 pub fn run_stages(
