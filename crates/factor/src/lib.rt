@@ -12,8 +12,8 @@ ghost use Rattle.factor.specs.Layouts.{layout, layoutAt, rowOf, isMove};
 ghost use Rattle.factor.specs.UndoingOrder.{nthUndone};
 use rules::Item;
 use rules::Kind;
-use sheet::factors::count_at;
-use sheet::factors::kind_at;
+use sheetread::factors::count_at;
+use sheetread::factors::kind_at;
 
 pub mod block; // the block between the lent slices and the runs
 pub mod bounds; // stage 0

@@ -6,7 +6,7 @@ ghost use lib.IntN.{pos, natAbs};
 ghost use Rattle.whole.specs.Diff.{Within};
 ghost use Rattle.rules.specs.Numbers.{unit, mostEntry};
 ghost use Rattle.factor.specs.Magnitudes.{magnitudesOf, Entries, whole};
-use sheet::factors::size;
+use sheetread::factors::size;
 
 // |z|
 fn magnitude(z: i32) -> i32

@@ -10,7 +10,7 @@ ghost use Rattle.factor.specs.MovedInPlace.{LineIn, movedFrom, movedLine
 use crate::Layout;
 use crate::run::Task;
 use crate::run::is_inverse;
-use sheet::factors::count_at;
+use sheetread::factors::count_at;
 
 // The numbers of a line into an array aside. The array is lent: by value it would stand on the stack three times.
 fn copy_line(x: &[i32], n: usize, k: usize, s: usize, v: &mut [i32; 16])

@@ -4,10 +4,10 @@ ghost use Prim.Native.Nat.{_<_};
 ghost use Rattle.rules.specs.Numbers.{count};
 ghost use Rattle.rules.specs.Answers.{start};
 ghost use Rattle.laws.specs.Accepted.{Accepted};
-ghost use Rattle.sheet.specs.Starts.{Starts};
+ghost use Rattle.sheetread.specs.Starts.{Starts};
 ghost use Rattle.factor.specs.Tasks.{byNearest, isInverse, inputsOf, numberOf, nthStage};
 use rules::Rule;
-use sheet::factors::count_at;
+use sheetread::factors::count_at;
 
 // Numbers through the stages, first to last; back through them, last to first; or the allowances of the coefficients, first to
 // last.

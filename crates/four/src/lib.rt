@@ -9,8 +9,8 @@ ghost use Rattle.factor.specs.SumBounds.{Bounded};
 ghost use Rattle.four.specs.Turns.{stageOn, Became};
 use rules::Kind;
 use rules::Rule;
-use sheet::factors::count_at;
-use sheet::factors::kind_at;
+use sheetread::factors::count_at;
+use sheetread::factors::kind_at;
 
 mod elements; // one element, applied or undone
 mod moves; // permutations

@@ -10,7 +10,7 @@ ghost use Rattle.factor.specs.SumBounds.{Bounded};
 ghost use Rattle.four.specs.Turns.{Became};
 use crate::Four;
 use rules::Item;
-use sheet::factors::count_at;
+use sheetread::factors::count_at;
 
 // The m-th place.
 fn place(sheet: &[i32], p: usize, m: usize) -> usize

@@ -10,8 +10,8 @@ use factor::run::nearest;
 use linerun::block::run_block;
 use rules::Answer;
 use rules::Rule;
-use sheet::checks::check_starts;
-use sheet::factors::count_at;
+use sheetread::checks::check_starts;
+use sheetread::factors::count_at;
 
 // 1 to 9, then 10 for the input and for the output, then the run.
 fn call(run: Run, s: &[i32], x: &[i32], y: &mut [i32]) -> Answer

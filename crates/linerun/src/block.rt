@@ -6,7 +6,7 @@ ghost use Rattle.rules.specs.Numbers.{count};
 ghost use Rattle.rules.specs.Calls.{Gives};
 ghost use Rattle.laws.specs.Accepted.{Accepted};
 ghost use Rattle.laws.specs.AnswersInTurn.{ranReply};
-ghost use Rattle.sheet.specs.Starts.{Starts};
+ghost use Rattle.sheetread.specs.Starts.{Starts};
 ghost use Rattle.factor.specs.Tasks.{inputsOf, numberOf, ran};
 ghost use Rattle.factor.specs.PaddedBlocks.{paddedBlock};
 ghost use Rattle.linerun.specs.Runs.{lineStagesOf};

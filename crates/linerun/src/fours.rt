@@ -7,7 +7,7 @@ ghost use lib.ListN.{length};
 ghost use Rattle.rules.specs.Numbers.{bound, count};
 ghost use Rattle.rules.specs.Stages.{done};
 ghost use Rattle.laws.specs.Accepted.{Accepted};
-ghost use Rattle.sheet.specs.Starts.{Starts};
+ghost use Rattle.sheetread.specs.Starts.{Starts};
 ghost use Rattle.factor.specs.SumBounds.{Bounded};
 ghost use Rattle.factor.specs.Tasks.{inputsOf, ran, runBy};
 ghost use Rattle.linerun.specs.Runs.{lineStagesOf};
@@ -18,7 +18,7 @@ use factor::run::Task;
 use factor::run::is_inverse;
 use factor::run::nth_start;
 use four::Four;
-use sheet::factors::count_at;
+use sheetread::factors::count_at;
 
 // Whether it is a run of four numbers.
 fn is_four(task: Task, n: usize) -> bool

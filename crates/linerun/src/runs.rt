@@ -1,7 +1,7 @@
 // All factors of a checked sheet, one after another.
 ghost use Rattle.rules.specs.Numbers.{count};
 ghost use Rattle.laws.specs.Accepted.{Accepted};
-ghost use Rattle.sheet.specs.Starts.{Starts};
+ghost use Rattle.sheetread.specs.Starts.{Starts};
 ghost use Rattle.factor.specs.PaddedBlocks.{RunEnded};
 ghost use Rattle.factor.specs.SumBounds.{Bounded};
 ghost use Rattle.factor.specs.Tasks.{limitOf, runBy};
@@ -11,7 +11,7 @@ use crate::steps::Passed;
 use factor::run::Outcome;
 use factor::run::Run;
 use factor::run::nth_start;
-use sheet::factors::count_at;
+use sheetread::factors::count_at;
 
 // The block after the last stage, or the stage that is refused: first to last, or, for an inverse run, last to first.
 pub fn run_stages(run: Run, sheet: &[i32], starts: &[u16; 32], x: [i32; 16]) -> Passed

@@ -12,7 +12,7 @@ use crate::number::read_number;
 use crate::number::value_of;
 use rules::Answer;
 use rules::Sheet;
-use sheet::factors::smaller;
+use sheetread::factors::smaller;
 
 // These decide about any sheet: one number more than the longest sheet has is a fault already.
 const ENOUGH: usize = Sheet::LONGEST + 1;

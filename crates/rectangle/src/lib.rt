@@ -10,8 +10,8 @@ use factor::run::nearest;
 use rectanglerun::block::run_block;
 use rules::Answer;
 use rules::Rule;
-use sheet::checks::check_pair_starts;
-use sheet::factors::count_at;
+use sheetread::checks::check_pair_starts;
+use sheetread::factors::count_at;
 
 // 1 to 9 and 12, then 10 for the input and for the output, then the run.
 fn call(run: Run, col: &[i32], row: &[i32], x: &[i32], y: &mut [i32]) -> Answer

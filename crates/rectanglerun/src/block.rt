@@ -4,7 +4,7 @@ ghost use mathlib.Core.Path.{_≡_};
 ghost use lib.ListN.{length};
 ghost use Rattle.rules.specs.Calls.{Gives};
 ghost use Rattle.laws.specs.AnswersInTurn.{ranReply};
-ghost use Rattle.sheet.specs.Starts.{Starts};
+ghost use Rattle.sheetread.specs.Starts.{Starts};
 ghost use Rattle.factor.specs.Tasks.{inputsOf, numberOf};
 ghost use Rattle.rectanglerun.specs.Runs.{Matched, sizeOf, jointRan};
 use crate::ends::load;

@@ -8,7 +8,7 @@ ghost use lib.ListN.{length, replicate};
 ghost use Rattle.rules.specs.Numbers.{bound, count};
 ghost use Rattle.rules.specs.Stages.{inside};
 ghost use Rattle.laws.specs.Accepted.{Accepted};
-ghost use Rattle.sheet.specs.Starts.{Starts};
+ghost use Rattle.sheetread.specs.Starts.{Starts};
 ghost use Rattle.factor.specs.Tasks.{inputsOf};
 ghost use Rattle.rectanglerun.specs.Runs.{Matched, sizeOf};
 ghost use Rattle.rectanglerun.specs.Turns.{movesInTurn, MovedInTurn, Loaded, StopsAt, Stored};
@@ -19,7 +19,7 @@ use factor::layout_at;
 use factor::run::Run;
 use factor::run::Task;
 use factor::run::nth_start;
-use sheet::factors::count_at;
+use sheetread::factors::count_at;
 
 // Whether the factor in turn t is a permutation.
 fn is_moving(task: Task, sheet: &[i32], starts: &[u16; 32], t: usize) -> bool

@@ -13,7 +13,7 @@ use factor::moves::either;
 use factor::moves::move_line;
 use factor::run::Task;
 use factor::run::is_inverse;
-use sheet::factors::count_at;
+use sheetread::factors::count_at;
 
 // A row of one block as a row of another, where it starts at place k: applied, place j takes the number of place q(j) from o on;
 // back, the number of j goes to q(j). The n places of a permutation stand in its sheet, from place q on.

@@ -3,7 +3,7 @@ ghost use mathlib.Core.Path.{_≡_};
 ghost use Prim.Native.Nat.{_≤_};
 ghost use lib.ListN.{length};
 ghost use Rattle.rules.specs.Numbers.{count};
-ghost use Rattle.sheet.specs.Starts.{Starts};
+ghost use Rattle.sheetread.specs.Starts.{Starts};
 ghost use Rattle.factor.specs.SumBounds.{Bounded};
 ghost use Rattle.factor.specs.Tasks.{limitOf};
 ghost use Rattle.rectanglerun.specs.Runs.{Matched};
@@ -12,7 +12,7 @@ use crate::stages::run_stage;
 use factor::run::Outcome;
 use factor::run::Run;
 use factor::run::nth_start;
-use sheet::factors::count_at;
+use sheetread::factors::count_at;
 
 // The stages from turn from up to turn to, first to last, or, for an inverse run, last to first: the block after them, or the
 // stage that is refused.

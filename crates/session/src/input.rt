@@ -21,7 +21,7 @@ pub fn block_at(v: &[i32]) -> usize
     requires { ⌜ T (nonNeg (at (now v) 0)) ⌝ }
     ensures { λ r. ⌜ r ≡ blockAt (now (v .entry)) ⌝ }
 {
-    sheet::factors::size(first(v)) + 1
+    sheetread::factors::size(first(v)) + 1
 }
 
 // 10, if c is missing or not between 0 and the numbers after it.

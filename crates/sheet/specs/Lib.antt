@@ -1,3 +1,1 @@
-pub mod Starts
-pub mod Quick
 pub mod Promises

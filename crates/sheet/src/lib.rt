@@ -1,17 +1,10 @@
-// Checks sheets by the rules 1 to 9 and 12 of document 01, and says where the factors of a checked sheet stand.
+// The calls on sheets, by the rules 1 to 9 and 12 of document 01. They ask nothing of their callers.
 ghost use mathlib.Core.Path.{_≡_};
 ghost use Rattle.rules.specs.Answers.{checked, pairChecked, IsRest};
-use checks::check_pair_starts;
-use checks::check_starts;
-use checks::read_whole;
 use rules::Answer;
-
-pub mod factors; // numbers that count something, and kinds: for callers that hold a checked sheet
-mod faults; // 2 to 8: the fault of one number
-mod quick; // whether a sheet has no fault at all
-mod readers; // from the left to the first fault: 1 to 9
-mod matches; // two checked sheets, kind for kind: 12
-pub mod checks; // the checks of a sheet and of a pair, with a table of starts
+use sheetread::checks::check_pair_starts;
+use sheetread::checks::check_starts;
+use sheetread::checks::read_whole;
 
 // Checks a sheet: 1 to 9. The law `accepted-read` says what a sheet has for which this answers 0.
 pub fn check(sheet: &[i32]) -> Answer

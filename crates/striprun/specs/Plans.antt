@@ -11,7 +11,7 @@ use Rattle.rules.specs.Strips.{StripReply, strip, outputs, bytesOf}
 use Rattle.laws.specs.Accepted.{accepted-read, pair-read, accepted-order}
 use Rattle.laws.specs.AnswersInTurn.{ranReply}
 use Rattle.laws.specs.Strips.{BlockCall, forward-block, inverse-block}
-use Rattle.sheet.specs.Starts.{Starts}
+use Rattle.sheetread.specs.Starts.{Starts}
 use Rattle.factor.specs.declared.run.Task.{Task}
 use Rattle.factor.specs.declared.run.Task.the-variants.{Forward, Inverse, Allowance}
 use Rattle.factor.specs.declared.run.Run.{Run}

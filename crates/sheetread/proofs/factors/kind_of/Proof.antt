@@ -1,0 +1,24 @@
+-- Each test is that of the table. Assumes nothing.
+use borrow.Author.Tests.{eq-eqb, ne-eqb}
+use Rattle.rules.specs.Sheets.{kindOf}
+use Rattle.sheetread.proofs.factors.kind_of.Statement.{statement}
+use Rattle.sheetread.proofs.factors.kind_of.Tie as tie
+
+returns : tie.Need-returns
+unfolding kindOf
+returns c = rw (eq-eqb _ 1 (c .if1 .taken))
+
+returns-2 : tie.Need-returns-2
+unfolding kindOf
+returns-2 c = rw (ne-eqb _ 1 (c .before .if1 .left), eq-eqb _ 2 (c .if2 .taken))
+
+returns-3 : tie.Need-returns-3
+unfolding kindOf
+returns-3 c = rw (ne-eqb _ 1 (c .before .before .if1 .left), ne-eqb _ 2 (c .before .if2 .left), eq-eqb _ 3 (c .if3 .taken))
+
+returns-4 : tie.Need-returns-4
+unfolding kindOf
+returns-4 c = rw (ne-eqb _ 1 (c .before .before .if1 .left), ne-eqb _ 2 (c .before .if2 .left), ne-eqb _ 3 (c .if3 .left))
+
+pub kind-of-spec : {M : Type 1} → statement M
+kind-of-spec = tie.close (tie.spec returns returns-2 returns-3 returns-4)
