@@ -10,7 +10,7 @@ ghost use Rattle.rules.specs.Numbers.{mostOrder, count};
 ghost use Rattle.rules.specs.Sheets.{_then_, times, one, weights, body, factor};
 ghost use Rattle.laws.specs.Accepted.{Headed, Accepted};
 ghost use Rattle.sheetread.specs.Starts.{Starts, FactorsMet};
-ghost use Rattle.sheetread.specs.Quick.{EndsAt};
+ghost use Rattle.sheetread.specs.Quick.{Passes, EndsAt};
 use crate::factors::count_at;
 use crate::factors::kind_at;
 use crate::factors::triangle_of;
@@ -42,18 +42,31 @@ fn end_of_one(sheet: &[i32], what: Item, p: usize) -> usize
     p + 1
 }
 
-// m numbers, all of one meaning.
-fn end_of_many(sheet: &[i32], what: Item, m: usize, p: usize) -> usize
-    ensures { λ r. ⌜ EndsAt (now (sheet .entry)) (times m (one (now (sheet .entry)) what) p) r ⌝ }
+// Whether m numbers that stand from place p on, all of one meaning, have no fault. It is kept small, so that it is compiled into
+// its callers, where the meaning is known: with the meaning asked for each number, the check of order 16 took four times as long.
+fn are_fine(sheet: &[i32], what: Item, m: usize, p: usize) -> bool
+    requires { ⌜ p + m ≤ length (now sheet) ⌝ }
+    ensures { λ r. ⌜ (r ≡ true
+        → Passes (now (sheet .entry)) (times m (one (now (sheet .entry)) what) p) (p + m)) ⌝ }
 {
-    if !has_room(sheet, m, p) {
-        return 0;
-    }
     let mut fine = true;
     for k in 0..m {
         fine = fine & (fault_of(sheet, what, p + k) == 0);
     }
-    if fine { p + m } else { 0 }
+    fine
+}
+
+// The places of a permutation of four. Four are compared faster than marked.
+fn end_of_four_places(sheet: &[i32], p: usize) -> usize
+    ensures { λ r. ⌜ EndsAt (now (sheet .entry)) (times 4 (one (now (sheet .entry)) (Item.Place 4 p)) p) r ⌝ }
+{
+    if !has_room(sheet, 4, p) {
+        return 0;
+    }
+    if are_fine(sheet, Item::Place(4, p), 4, p) {
+        return p + 4;
+    }
+    0
 }
 
 // The n places of a permutation. Each is marked when it is met, so that none is compared with all before it.
@@ -82,11 +95,20 @@ fn end_of_places(sheet: &[i32], n: usize, p: usize) -> usize
 fn end_of_weights(sheet: &[i32], n: usize, m: usize, p: usize) -> usize
     ensures { λ r. ⌜ EndsAt (now (sheet .entry)) (weights (now (sheet .entry)) n m p) r ⌝ }
 {
-    let q = end_of_many(sheet, Item::Sign, n, p);
-    if q == 0 {
+    if !has_room(sheet, n, p) {
         return 0;
     }
-    end_of_many(sheet, Item::Entry, m, q)
+    if !are_fine(sheet, Item::Sign, n, p) {
+        return 0;
+    }
+    let q = p + n;
+    if !has_room(sheet, m, q) {
+        return 0;
+    }
+    if are_fine(sheet, Item::Entry, m, q) {
+        return q + m;
+    }
+    0
 }
 
 // Kind 4: its row, n signs, then m entries.
@@ -114,13 +136,12 @@ fn end_of_body(sheet: &[i32], n: usize, kind: Kind, p: usize) -> usize
     }
 }
 
-// The same, of order 4: the numbers are so few that the compiler, told how many, writes them out. Four places are compared
-// faster than marked.
+// The same, of order 4: the numbers are so few that the compiler, told how many, writes them out.
 fn end_of_body_of_four(sheet: &[i32], kind: Kind, p: usize) -> usize
     ensures { λ r. ⌜ EndsAt (now (sheet .entry)) (body (now (sheet .entry)) 4 kind p) r ⌝ }
 {
     match kind {
-        Kind::Permutation => return end_of_many(sheet, Item::Place(4, p), 4, p),
+        Kind::Permutation => return end_of_four_places(sheet, p),
         Kind::Lower => return end_of_weights(sheet, 4, 6, p),
         Kind::Upper => return end_of_weights(sheet, 4, 6, p),
         Kind::Single => return end_of_single(sheet, 4, 3, p),

@@ -7,12 +7,12 @@ use Rattle.sheetread.proofs.quick.end_of_body_of_four.Tie as tie
 enum-told : tie.Need-enum-told
 enum-told c = search needs
 
-end-of-many-requires : tie.Need-end-of-many-requires
-end-of-many-requires c κs = search needs
+end-of-four-places-requires : tie.Need-end-of-four-places-requires
+end-of-four-places-requires c κs = search needs
 
 returns : tie.Need-returns
 unfolding body
-returns c = rw (c .before .enum-told .given .1) (c .end-of-many .ensures)
+returns c = rw (c .before .enum-told .given .1) (c .end-of-four-places .ensures)
 
 enum-told-2 : tie.Need-enum-told-2
 enum-told-2 c = search needs
@@ -47,5 +47,5 @@ returns-4 c = rw (c .before .enum-told4 .given .1) (c .end-of-single .ensures)
 pub end-of-body-of-four-spec : {M : Type 1} → statement M
 end-of-body-of-four-spec =
     tie.close
-    (tie.spec enum-told end-of-many-requires returns enum-told-2 end-of-weights-requires returns-2 enum-told-3
+    (tie.spec enum-told end-of-four-places-requires returns enum-told-2 end-of-weights-requires returns-2 enum-told-3
     end-of-weights-requires-2 returns-3 enum-told-4 end-of-single-requires returns-4)
