@@ -10,7 +10,7 @@ use factor::run::nearest;
 use linerun::block::run_block;
 use rules::Answer;
 use rules::Rule;
-use sheetread::checks::check_starts;
+use sheetcheck::checks::check_starts;
 use sheetread::factors::count_at;
 
 // 1 to 9, then 10 for the input and for the output, then the run.

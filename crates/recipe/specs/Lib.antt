@@ -1,10 +1,3 @@
-pub mod Codes
-pub mod Spelling
-pub mod Packing
-pub mod Filling
-pub mod Groups
-pub mod Reading
-pub mod Writing
 pub mod Calls
 pub mod Trips
 pub mod Printings

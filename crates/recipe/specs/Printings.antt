@@ -9,7 +9,7 @@ use Rattle.rules.specs.declared.Answer.{Answer}
 use Rattle.rules.specs.Calls.{Gives, reply, fitting, over, builtIn, firstPrinting, writeTable}
 use Rattle.laws.specs.AnswersInTurn.{keeps, fills}
 use Rattle.recipe.specs.Calls.{fitting-fine}
-use Rattle.recipe.specs.Filling.{over-long}
+use Rattle.recipebytes.specs.Filling.{over-long}
 
 module _ (room : List ℤ) {x : Answer} {m : List ℤ} (g : Gives x m (writeTable builtIn room)) where
   answered : x ≡ fitting 45 (length room)

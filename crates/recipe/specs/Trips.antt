@@ -11,10 +11,10 @@ use Rattle.rules.specs.Answers.{accepted, counted, checked}
 use Rattle.rules.specs.Calls.{Reply, reply, fitting, over, spelling, read, write, builtIn, firstPrinting}
 use Rattle.laws.specs.Accepted.{accepted-read}
 use Rattle.laws.specs.Low.{accepted-low}
-use Rattle.recipe.specs.Codes.{small-codable}
-use Rattle.recipe.specs.Spelling.{Bytes}
-use Rattle.recipe.specs.Packing.{Codables, read-packed, packed-read, one-spelling}
-use Rattle.recipe.specs.Filling.{over-front}
+use Rattle.recipebytes.specs.Codes.{small-codable}
+use Rattle.recipebytes.specs.Spelling.{Bytes}
+use Rattle.recipebytes.specs.Packing.{Codables, read-packed, packed-read, one-spelling}
+use Rattle.recipebytes.specs.Filling.{over-front}
 use Rattle.laws.specs.AnswersInTurn.{answer-passes}
 use Rattle.recipe.specs.Calls.{wrote, did-read}
 

@@ -1,66 +1,22 @@
 // Reading a recipe: the numbers of a byte string, one after another, checked as a sheet.
 ghost use mathlib.Core.Path.{_≡_};
-ghost use Prim.Native.Nat.{_+_, _≤_, _<_};
-ghost use lib.ListN.{length, set, take, drop};
-ghost use Rattle.rules.specs.Recipes.{value, number, numbersOf, leftOf};
+ghost use Prim.Native.Nat.{_+_};
+ghost use lib.ListN.{length};
+ghost use Rattle.rules.specs.Recipes.{numbersOf, leftOf};
 ghost use Rattle.rules.specs.Answers.{_or-else_, checked};
-ghost use Rattle.rules.specs.Calls.{Gives, over, spelling, fitting, read};
-ghost use Rattle.recipe.specs.Reading.{NumbersEnd};
+ghost use Rattle.rules.specs.Calls.{Gives, spelling, fitting, read};
+ghost use Rattle.recipebytes.specs.Reading.{NumbersEnd};
 use crate::answers::fitting;
 use crate::answers::or_else;
-use crate::number::read_number;
-use crate::number::value_of;
+use recipebytes::stream::End;
+use recipebytes::stream::decode;
+use recipebytes::stream::scan;
 use rules::Answer;
 use rules::Sheet;
 use sheetread::factors::smaller;
 
 // These decide about any sheet: one number more than the longest sheet has is a fault already.
 const ENOUGH: usize = Sheet::LONGEST + 1;
-
-// Where the numbers of some bytes end, and how many they are.
-pub struct End {
-    pub place: usize,
-    pub count: usize,
-}
-
-// Reads number after number until none stands at the place: that is the end, or the fault of 14.
-pub fn scan(bytes: &[u8]) -> End
-    ensures { λ r. ⌜ NumbersEnd (now (bytes .entry)) (r .place) (r .count) ⌝ }
-{
-    let n = bytes.len();
-    let mut i = 0;
-    for k in 0..n {
-        let r = read_number(bytes, i);
-        if r.size == 0 {
-            return End { place: i, count: k };
-        }
-        i += r.size;
-    }
-    End { place: i, count: n }
-}
-
-// Puts the number at i into out[k]; answers where the next one starts.
-fn read_into(bytes: &[u8], i: usize, out: &mut [i32], k: usize) -> usize
-    requires { ⌜ (i ≤ length (now bytes)) × (k < length (now out)) ⌝ }
-    ensures next { λ r. ⌜ r ≡ i + number (drop i (now (bytes .entry))) .size ⌝ }
-    ensures list { λ _. ⌜ now (out .exit)
-        ≡ set (now (out .entry)) k (value (number (drop i (now (bytes .entry))) .code)) ⌝ }
-{
-    let r = read_number(bytes, i);
-    out[k] = value_of(r.code);
-    i + r.size
-}
-
-// Puts the first m numbers into the front of out.
-pub fn decode(bytes: &[u8], out: &mut [i32], m: usize)
-    requires { ⌜ (m ≤ length (numbersOf (now bytes))) × (m ≤ length (now out)) ⌝ }
-    ensures { λ _. ⌜ now (out .exit) ≡ over (take m (numbersOf (now (bytes .entry)))) (now (out .entry)) ⌝ }
-{
-    let mut i = 0;
-    for k in 0..m {
-        i = read_into(bytes, i, out, k);
-    }
-}
 
 // Checks the numbers of some bytes as a sheet, in a copy of those that decide. So no bytes are too many to be answered.
 fn check_numbers(bytes: &[u8], count: usize) -> Answer

@@ -8,6 +8,8 @@ ghost use Rattle.session.specs.Inputs.{sessionOf};
 ghost use Rattle.session.specs.Writing.{Wrote};
 use input::block_at;
 use input::check_count;
+use recipebytes::stream::decode;
+use recipebytes::stream::scan;
 use rules::Answer;
 use text::put_refusal;
 use text::put_reply;
@@ -71,9 +73,9 @@ fn put_decoded(input: &[u8], m: usize, out: &mut [u8]) -> usize
     let mut v = blank();
     let mut y = blank();
     let mut z = blank();
-    recipe::decode(input, &mut v, m);
-    recipe::decode(input, &mut y, m);
-    recipe::decode(input, &mut z, m);
+    decode(input, &mut v, m);
+    decode(input, &mut y, m);
+    decode(input, &mut z, m);
     put_session(&v[..m], &mut y[..m], &mut z[..m], out)
 }
 
@@ -84,7 +86,7 @@ pub fn text_of(input: &[u8], out: &mut [u8]) -> usize
     if input.len() > LIMIT {
         return put_refusal(out, 0, Answer::refused(15, 0, LIMIT as u64));
     }
-    let end = recipe::scan(input);
+    let end = scan(input);
     if end.place < input.len() {
         return put_refusal(out, 0, Answer::refused(14, 0, end.place as u64));
     }

@@ -7,7 +7,7 @@ ghost use lib.IntN.{pos, natAbs};
 ghost use lib.ListN.{length};
 ghost use Rattle.session.specs.Program.{power, digitAt, digits, decimal, spaced, lineOf, refusal, replied};
 ghost use Rattle.session.specs.Writing.{Wrote};
-use recipe::below;
+use recipebytes::number::below;
 use rules::Answer;
 
 const DIGITS: usize = 20;

@@ -2,9 +2,9 @@
 ghost use mathlib.Core.Path.{_≡_};
 ghost use Rattle.rules.specs.Answers.{checked, pairChecked, IsRest};
 use rules::Answer;
-use sheetread::checks::check_pair_starts;
-use sheetread::checks::check_starts;
-use sheetread::checks::read_whole;
+use sheetcheck::checks::check_pair_starts;
+use sheetcheck::checks::check_starts;
+use sheetcheck::checks::read_whole;
 
 // Checks a sheet: 1 to 9. The law `accepted-read` says what a sheet has for which this answers 0.
 pub fn check(sheet: &[i32]) -> Answer

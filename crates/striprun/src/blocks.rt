@@ -6,8 +6,8 @@ ghost use Rattle.factor.specs.Tasks.{callOf};
 ghost use Rattle.striprun.specs.Plans.{planOf, StartsOf, TakesBlocks};
 use factor::run::Run;
 use rules::Answer;
-use sheetread::checks::check_pair_starts;
-use sheetread::checks::check_starts;
+use sheetcheck::checks::check_pair_starts;
+use sheetcheck::checks::check_starts;
 use sheetread::factors::count_at;
 
 // "both shapes": lines over one sheet, or rectangles over two. A line looks at the column sheet alone.

@@ -7,7 +7,7 @@ use lib.Seq.{length-take-le}
 use Rattle.rules.specs.Recipes.{numbersOf}
 use Rattle.rules.specs.Answers.{checked}
 use Rattle.laws.specs.Prefix.{longest, checked-front}
-use Rattle.recipe.specs.Filling.{front-is}
+use Rattle.recipebytes.specs.Filling.{front-is}
 use borrow.Author.Needs.{needs}
 use Rattle.recipe.proofs.reading.check_numbers.Statement.{statement}
 use Rattle.recipe.proofs.reading.check_numbers.Tie as tie

@@ -7,7 +7,7 @@ use lib.ListN.{take}
 use mir.Syntax.{w32}
 use mir.Facts.{toZ-ofZ}
 use Rattle.rules.specs.Calls.{over, builtIn}
-use Rattle.recipe.specs.Filling.{front-long, over-next}
+use Rattle.recipebytes.specs.Filling.{front-long, over-next}
 use Rattle.recipe.proofs.table.copy_table.Statement.{statement}
 use Rattle.recipe.proofs.table.copy_table.Tie as tie
 

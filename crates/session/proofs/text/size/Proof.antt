@@ -8,7 +8,7 @@ use native.Mathlib.Omega.{arith}
 use lib.IntN.{ℤ, pos, negsuc, natAbs}
 use lib.Signed.{ltZ}
 use mir.Facts.{toZ-ofZ}
-use Rattle.recipe.specs.Codes.{Above, above-zero}
+use Rattle.recipebytes.specs.Codes.{Above, above-zero}
 use Rattle.session.proofs.text.size.Statement.{statement}
 use Rattle.session.proofs.text.size.Tie as tie
 

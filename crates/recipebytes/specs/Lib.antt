@@ -1,0 +1,7 @@
+pub mod Codes
+pub mod Spelling
+pub mod Packing
+pub mod Filling
+pub mod Groups
+pub mod Reading
+pub mod Writing

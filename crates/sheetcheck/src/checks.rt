@@ -1,0 +1,77 @@
+// The checks of the calls: what is wrong with a sheet or a pair, and if nothing is, where the factors start.
+ghost use mathlib.Core.Path.{_≡_};
+ghost use lib.ListN.{length};
+ghost use Rattle.rules.specs.Sheets.{reading};
+ghost use Rattle.rules.specs.Answers.{readAnswer, checked, pairChecked};
+ghost use Rattle.laws.specs.Accepted.{Accepted};
+ghost use Rattle.sheetread.specs.Starts.{Starts};
+use crate::matches::check_match;
+use crate::quick::is_faultless;
+use sheetread::readers::read_sheet;
+use rules::Answer;
+use rules::Mark;
+
+// The answer to what a reading found, at side 0 or 1.
+fn answer_of(m: Mark, side: u32) -> Answer
+    ensures { λ r. ⌜ r ≡ readAnswer side m ⌝ }
+{
+    if m.number == 0 {
+        return Answer::accepted();
+    }
+    Answer::refused(m.number, side, m.place as u64)
+}
+
+// What a reading finds. Where the quick test says no, the readers tell the fault and its place.
+fn read_starts(sheet: &[i32], starts: &mut [u16; 32]) -> Mark
+    requires { ⌜ length (now starts) ≡ 32 ⌝ }
+    ensures { λ r. ⌜ (r ≡ reading (now (sheet .entry)))
+        × (r .number ≡ 0 → Accepted (now (sheet .entry)) × Starts (now (sheet .entry)) (now (starts .exit))) ⌝ }
+{
+    if is_faultless(sheet, starts) {
+        let end = sheet.len();
+        return Mark {
+            number: 0,
+            place: end,
+        };
+    }
+    read_sheet(sheet, starts)
+}
+
+// The same, where nobody asks for the starts.
+pub fn read_whole(sheet: &[i32]) -> Mark
+    ensures { λ r. ⌜ r ≡ reading (now (sheet .entry)) ⌝ }
+{
+    let mut starts = [0u16; 32];
+    read_starts(sheet, &mut starts)
+}
+
+// Checks a sheet: 1 to 9. The law `accepted-read` says what a sheet has for which this answers 0.
+pub fn check_starts(sheet: &[i32], starts: &mut [u16; 32]) -> Answer
+    requires { ⌜ length (now starts) ≡ 32 ⌝ }
+    ensures { λ r. ⌜ (r ≡ checked (now (sheet .entry)))
+        × (r .number ≡ 0 → Starts (now (sheet .entry)) (now (starts .exit))) ⌝ }
+{
+    answer_of(read_starts(sheet, starts), 0)
+}
+
+// Checks two sheets: 1 to 9 for the column sheet, then for the row sheet, then 12. The law is `pair-read`.
+pub fn check_pair_starts(
+    col: &[i32],
+    row: &[i32],
+    columns: &mut [u16; 32],
+    rows: &mut [u16; 32],
+) -> Answer
+    requires { ⌜ (length (now columns) ≡ 32) × (length (now rows) ≡ 32) ⌝ }
+    ensures { λ r. ⌜ (r ≡ pairChecked (now (col .entry)) (now (row .entry)))
+        × (r .number ≡ 0 → Starts (now (col .entry)) (now (columns .exit)) × Starts (now (row .entry)) (now (rows .exit))) ⌝ }
+{
+    let c = read_starts(col, columns);
+    if c.number != 0 {
+        return answer_of(c, 0);
+    }
+    let r = read_starts(row, rows);
+    if r.number != 0 {
+        return answer_of(r, 1);
+    }
+    check_match(col, row, columns, rows)
+}
