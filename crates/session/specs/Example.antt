@@ -13,8 +13,8 @@ use Rattle.rules.specs.Answers.{_or-else_, further, first, matching, pairChecke
 use Rattle.rules.specs.Calls.{reply, read, write, writeTable, line, joint, ranAnswer, ranMemory, runReply, forwardCall}
 use Rattle.rules.specs.Calls.{inverseCall, allowanceCall}
 use Rattle.whole.specs.Sum.{sum}
-use Rattle.session.specs.Program.{digitAt, digits, decimal, spaced, lineOf, sayForward, sayBack, sayAllow, refusal, replied}
-use Rattle.session.specs.Program.{afterwards, ran, counts, printed}
+use Rattle.printing.specs.Program.{digitAt, digits, decimal, spaced, lineOf, sayForward, sayBack, sayAllow, refusal, replied}
+use Rattle.printing.specs.Program.{afterwards, ran, counts, printed}
 
 abbrev pub input : List ℕ
 input = 20 ∷ 4 ∷ 4 ∷ 4 ∷ 2 ∷ 2 ∷ 128 ∷ 32 ∷ 6 ∷ 2 ∷ 1 ∷ 255 ∷ 95 ∷ 6 ∷ 10 ∷ []

@@ -16,7 +16,7 @@ use Rattle.rules.specs.Recipes.{value, number, unpack, numbersOf, leftOf}
 use Rattle.rules.specs.Answers.{_or-else_, accepted, refused}
 use Rattle.rules.specs.Calls.{over}
 use Rattle.recipebytes.specs.Filling.{front-is}
-use Rattle.session.specs.Program.{limit, blockAt, blockIn, sheetIn, counts, ran, session, refusal, printed}
+use Rattle.printing.specs.Program.{limit, blockAt, blockIn, sheetIn, counts, ran, session, refusal, printed}
 
 pub at-none : (v : List ℤ) → length v ≡ 0 → at v 0 ≡ pos 0
 at-none [] h = refl

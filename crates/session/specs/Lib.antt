@@ -1,6 +1,3 @@
-pub mod Program
-pub mod Writing
-pub mod Digits
 pub mod Sessions
 pub mod Inputs
 pub mod Example

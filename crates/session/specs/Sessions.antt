@@ -6,7 +6,7 @@ use lib.IntN.{ℤ}
 use Rattle.rules.specs.declared.Answer.{Answer}
 use Rattle.rules.specs.declared.Rule.the-variants.{Nearest}
 use Rattle.rules.specs.Calls.{Reply, Gives, line, forwardCall, inverseCall, allowanceCall}
-use Rattle.session.specs.Program.{sayForward, sayBack, sayAllow, replied, afterwards, ran}
+use Rattle.printing.specs.Program.{sayForward, sayBack, sayAllow, replied, afterwards, ran}
 
 -- ---- the lines of the calls
 abbrev pub gave : Answer → List ℤ → Reply ℤ

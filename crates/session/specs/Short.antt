@@ -17,8 +17,8 @@ use Rattle.rules.specs.Calls.{Reply, line, forwardCall, inverseCall, allowanceC
 use Rattle.laws.specs.Accepted.{accepted-read, accepted-order}
 use Rattle.laws.specs.Plans.{forward-gives, forward-accepted, forward-length, inverse-gives, inverse-accepted, inverse-length}
 use Rattle.laws.specs.Plans.{allowance-gives, allowance-accepted, allowance-length}
-use Rattle.session.specs.Program.{power, digitAt, digits, decimal, spaced, lineOf, sayForward, sayBack, sayAllow, refusal}
-use Rattle.session.specs.Program.{replied, afterwards, ran, inputAnswer, session, printed}
+use Rattle.printing.specs.Program.{power, digitAt, digits, decimal, spaced, lineOf, sayForward, sayBack, sayAllow, refusal}
+use Rattle.printing.specs.Program.{replied, afterwards, ran, inputAnswer, session, printed}
 
 -- ---- numbers and lines
 digit-long : (p n : ℕ) → length (digitAt p n) ≤ 1

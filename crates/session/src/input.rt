@@ -3,7 +3,7 @@ ghost use mathlib.Core.Path.{_≡_};
 ghost use lib.Dec.{T};
 ghost use lib.Signed.{nonNeg};
 ghost use Rattle.rules.specs.Numbers.{at};
-ghost use Rattle.session.specs.Program.{blockAt, counts};
+ghost use Rattle.printing.specs.Program.{blockAt, counts};
 use rules::Answer;
 
 // The count c; 0 if it is missing.

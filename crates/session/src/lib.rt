@@ -3,19 +3,18 @@ ghost use mathlib.Core.Path.{_≡_};
 ghost use Prim.Native.Nat.{_≤_};
 ghost use lib.ListN.{length};
 ghost use Rattle.rules.specs.Recipes.{numbersOf};
-ghost use Rattle.session.specs.Program.{afterwards, ran, printed};
+ghost use Rattle.printing.specs.Program.{afterwards, ran, printed};
 ghost use Rattle.session.specs.Inputs.{sessionOf};
-ghost use Rattle.session.specs.Writing.{Wrote};
+ghost use Rattle.printing.specs.Writing.{Wrote};
 use input::block_at;
 use input::check_count;
+use printing::put_refusal;
+use printing::put_reply;
 use recipebytes::stream::decode;
 use recipebytes::stream::scan;
 use rules::Answer;
-use text::put_refusal;
-use text::put_reply;
 
 mod input; // the count, the sheet and the block among the numbers that were read
-mod text; // bytes, words and numbers put into a lent slice
 
 // The program reads at most so many bytes, and so no more numbers.
 pub const LIMIT: usize = 16384;

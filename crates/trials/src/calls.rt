@@ -1,12 +1,12 @@
 // Each call on the parts of a case: A, B and X are lent to be read, Y to be written.
-use crate::parts::ROOM;
+use trialparts::parts::ROOM;
 ghost use mathlib.Core.Path.{_≡_};
 ghost use lib.ListN.{length};
-use crate::parts::is_front;
-use crate::parts::load;
-use crate::parts::load_bytes;
-use crate::parts::natural;
-use crate::parts::store_bytes;
+use trialparts::parts::is_front;
+use trialparts::parts::load;
+use trialparts::parts::load_bytes;
+use trialparts::parts::natural;
+use trialparts::parts::store_bytes;
 use rules::Answer;
 
 // The reader, on bytes that stand one to a word.

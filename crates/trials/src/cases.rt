@@ -2,18 +2,18 @@
 ghost use Prim.Native.Nat.{_<_, _≤_};
 use crate::calls::answer;
 use crate::calls::is_rest;
-use crate::parts::ROOM;
-use crate::parts::at;
-use crate::parts::is_answer;
-use crate::parts::is_between;
-use crate::parts::is_front;
-use crate::parts::load;
-use crate::parts::natural;
-use crate::parts::part;
-use crate::tally::note;
-use crate::words::MOST;
-use crate::words::blank_words;
-use crate::words::read_words;
+use trialparts::parts::ROOM;
+use trialparts::parts::at;
+use trialparts::parts::is_answer;
+use trialparts::parts::is_between;
+use trialparts::parts::is_front;
+use trialparts::parts::load;
+use trialparts::parts::natural;
+use trialparts::parts::part;
+use trialparts::tally::note;
+use trialparts::words::MOST;
+use trialparts::words::blank_words;
+use trialparts::words::read_words;
 
 // More cases than any stream has.
 const MANY: u64 = 1000000000;

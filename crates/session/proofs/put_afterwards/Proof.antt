@@ -1,5 +1,5 @@
 -- The line of the inverse, then that of the allowance.
-use Rattle.session.specs.Writing.{wrote-then, wrote-as}
+use Rattle.printing.specs.Writing.{wrote-then, wrote-as}
 use Rattle.session.specs.Sessions.{afterwards-is}
 use borrow.Author.Needs.{needs}
 use Rattle.session.proofs.put_afterwards.Statement.{statement}

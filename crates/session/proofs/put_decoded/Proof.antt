@@ -1,7 +1,7 @@
 -- Each decoding leaves the numbers in the front of its room: that is what the session is given.
 use mathlib.Core.Path.{_≡_, sym, ap, _∙_}
 use lib.ListN.{length, take}
-use Rattle.session.specs.Writing.{wrote-as}
+use Rattle.printing.specs.Writing.{wrote-as}
 use Rattle.rules.specs.Recipes.{numbersOf}
 use Rattle.session.specs.Inputs.{sessionOf, decoded-front}
 use borrow.Author.Needs.{needs}

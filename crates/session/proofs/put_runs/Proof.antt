@@ -1,5 +1,5 @@
 -- The line of the forward run; after a refused one nothing follows.
-use Rattle.session.specs.Writing.{wrote-then, wrote-as}
+use Rattle.printing.specs.Writing.{wrote-then, wrote-as}
 use Rattle.session.specs.Sessions.{ran-stops, ran-goes}
 use borrow.Author.Needs.{needs}
 use Rattle.session.proofs.put_runs.Statement.{statement}

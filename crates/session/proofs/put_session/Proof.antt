@@ -6,8 +6,8 @@ use native.Mathlib.Omega.{arith}
 use lib.IntN.{ℤ}
 use lib.ListN.{length}
 use Rattle.rules.specs.declared.Answer.{Answer}
-use Rattle.session.specs.Writing.{wrote-as}
-use Rattle.session.specs.Program.{counts, refusal}
+use Rattle.printing.specs.Writing.{wrote-as}
+use Rattle.printing.specs.Program.{counts, refusal}
 use Rattle.session.specs.Inputs.{Counted, counted-by, session-refused, session-runs, session-parts}
 use borrow.Author.Needs.{needs}
 use Rattle.session.proofs.put_session.Statement.{statement}

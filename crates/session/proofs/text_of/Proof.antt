@@ -1,8 +1,8 @@
 -- 15, then 14, then the numbers that were read.
 use mathlib.Core.Path.{ap, _∙_}
 use native.Mathlib.Omega.{arith}
-use Rattle.session.specs.Writing.{wrote-as}
-use Rattle.session.specs.Program.{refusal}
+use Rattle.printing.specs.Writing.{wrote-as}
+use Rattle.printing.specs.Program.{refusal}
 use Rattle.session.specs.Inputs.{numbers-short, printed-many, printed-cut, printed-numbers}
 use borrow.Author.Needs.{needs}
 use Rattle.session.proofs.text_of.Statement.{statement}
