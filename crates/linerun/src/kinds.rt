@@ -68,7 +68,7 @@ pub fn lower(rule: Rule, sheet: &[i32], f: Layout, x: [i32; 16]) -> Passed
         let z = applied_at(sheet, f, m, &x, left_sum(rule, sheet, f, p, m, &x));
         if !is_within(z, Block::SAMPLE) {
             return Passed {
-                block: x,
+                block: y,
                 outcome: Outcome {
                     ok: false,
                     stage: 1,
@@ -97,7 +97,7 @@ pub fn upper(rule: Rule, sheet: &[i32], f: Layout, x: [i32; 16]) -> Passed
         let z = applied_at(sheet, f, m, &x, right_sum(rule, sheet, f, p, m, &x));
         if !is_within(z, Block::SAMPLE) {
             return Passed {
-                block: x,
+                block: y,
                 outcome: Outcome {
                     ok: false,
                     stage: 1,
@@ -125,7 +125,7 @@ pub fn single(rule: Rule, sheet: &[i32], f: Layout, x: [i32; 16]) -> Passed
         let z = applied_at(sheet, f, m, &x, single_sum(rule, sheet, f, m, &x));
         if !is_within(z, Block::SAMPLE) {
             return Passed {
-                block: x,
+                block: y,
                 outcome: Outcome {
                     ok: false,
                     stage: 1,
@@ -154,7 +154,7 @@ pub fn lower_back(rule: Rule, sheet: &[i32], f: Layout, y: [i32; 16]) -> Passed
         let z = undone_at(sheet, f, m, &x, left_sum(rule, sheet, f, p, m, &x));
         if !is_within(z, Block::SAMPLE) {
             return Passed {
-                block: y,
+                block: x,
                 outcome: Outcome {
                     ok: false,
                     stage: 1,
@@ -185,7 +185,7 @@ pub fn upper_back(rule: Rule, sheet: &[i32], f: Layout, y: [i32; 16]) -> Passed
         let z = undone_at(sheet, f, m, &x, right_sum(rule, sheet, f, p, m, &x));
         if !is_within(z, Block::SAMPLE) {
             return Passed {
-                block: y,
+                block: x,
                 outcome: Outcome {
                     ok: false,
                     stage: 1,
@@ -213,7 +213,7 @@ pub fn single_back(rule: Rule, sheet: &[i32], f: Layout, y: [i32; 16]) -> Passed
         let z = undone_at(sheet, f, m, &x, single_sum(rule, sheet, f, m, &x));
         if !is_within(z, Block::SAMPLE) {
             return Passed {
-                block: y,
+                block: x,
                 outcome: Outcome {
                     ok: false,
                     stage: 1,

@@ -7,9 +7,9 @@ ghost use Rattle.laws.specs.Accepted.{Accepted};
 ghost use Rattle.sheetread.specs.Starts.{Starts};
 use crate::matches::check_match;
 use crate::quick::is_faultless;
-use sheetread::readers::read_sheet;
 use rules::Answer;
 use rules::Mark;
+use sheetread::readers::read_sheet;
 
 // The answer to what a reading found, at side 0 or 1.
 fn answer_of(m: Mark, side: u32) -> Answer

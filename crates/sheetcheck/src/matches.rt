@@ -5,9 +5,9 @@ ghost use Rattle.rules.specs.Numbers.{count};
 ghost use Rattle.rules.specs.Answers.{start, first, differ, matching};
 ghost use Rattle.laws.specs.Accepted.{Accepted};
 ghost use Rattle.sheetread.specs.Starts.{Starts};
+use rules::Answer;
 use sheetread::factors::count_at;
 use sheetread::factors::smaller;
-use rules::Answer;
 
 // The kind number of factor f.
 fn kind_number(sheet: &[i32], starts: &[u16; 32], f: usize) -> usize

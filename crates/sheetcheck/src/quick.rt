@@ -11,12 +11,12 @@ ghost use Rattle.rules.specs.Sheets.{_then_, times, one, weights, body, factor}
 ghost use Rattle.laws.specs.Accepted.{Headed, Accepted};
 ghost use Rattle.sheetread.specs.Starts.{Starts, FactorsMet};
 ghost use Rattle.sheetcheck.specs.Quick.{Passes, EndsAt};
+use rules::Item;
+use rules::Kind;
 use sheetread::factors::count_at;
 use sheetread::factors::kind_at;
 use sheetread::factors::triangle_of;
 use sheetread::faults::fault_of;
-use rules::Item;
-use rules::Kind;
 
 // Whether m numbers stand from place p on.
 fn has_room(sheet: &[i32], m: usize, p: usize) -> bool

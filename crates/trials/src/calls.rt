@@ -2,12 +2,12 @@
 use trialparts::parts::ROOM;
 ghost use mathlib.Core.Path.{_≡_};
 ghost use lib.ListN.{length};
+use rules::Answer;
 use trialparts::parts::is_front;
 use trialparts::parts::load;
 use trialparts::parts::load_bytes;
 use trialparts::parts::natural;
 use trialparts::parts::store_bytes;
-use rules::Answer;
 
 // The reader, on bytes that stand one to a word.
 fn read(a: &[i32], y: &mut [i32]) -> Answer {

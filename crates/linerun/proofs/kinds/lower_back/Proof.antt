@@ -25,11 +25,11 @@ use Rattle.linerun.proofs.kinds.lower_back.Statement.{statement}
 use Rattle.linerun.proofs.kinds.lower_back.Tie as tie
 
 abbrev Inv-loop : tie.InvT-loop
-Inv-loop rule sheet f y n x₀ p₀ t₀ x p t =
-    (t ≤ n) × (n ≡ f .order) × (p ≡ f .entries + triangle t) × Filled (λ k. undoneInPlace rule sheet f k y) t x
+Inv-loop rule sheet f n x₀ p₀ t₀ x p t =
+    (t ≤ n) × (n ≡ f .order) × (p ≡ f .entries + triangle t) × Filled (λ k. undoneInPlace rule sheet f k x₀) t x
 
 abbrev μ-loop : tie.MeasureT-loop
-μ-loop rule sheet f y n x₀ p₀ t₀ x p t = n - t
+μ-loop rule sheet f n x₀ p₀ t₀ x p t = n - t
 
 -- the block after t turns, the element of turn t, and what it was
 abbrev W : tie.Start Inv-loop μ-loop → ℕ → List ℤ
