@@ -28,7 +28,7 @@ pub fn run_stages(run: Run, sheet: &[i32], starts: &[u16; 32], x: [i32; 16]) -> 
         let s = run_stage(run, sheet, n, i, v);
         if !s.outcome.ok {
             return Passed {
-                block: x,
+                block: v,
                 outcome: Outcome {
                     ok: false,
                     stage: t + 1,

@@ -103,7 +103,7 @@ pub fn allow_weights(rule: Rule, sheet: &[i32], f: Layout, b: [i32; 16]) -> Pass
         let z = allowed_at(rule, sheet, f, m, &b);
         if !is_within(z, Block::ALLOWANCE) {
             return Passed {
-                block: b,
+                block: c,
                 outcome: Outcome {
                     ok: false,
                     stage: 1,

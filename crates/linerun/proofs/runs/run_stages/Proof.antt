@@ -14,11 +14,11 @@ use Rattle.linerun.proofs.runs.run_stages.Statement.{statement}
 use Rattle.linerun.proofs.runs.run_stages.Tie as tie
 
 abbrev Inv-loop : tie.InvT-loop
-Inv-loop run sheet starts x task n many v₀ t₀ v t =
-    (t ≤ many) × (n ≡ count sheet 0) × (many ≡ count sheet 1) × RunAt run sheet x t v
+Inv-loop run sheet starts task n many v₀ t₀ v t =
+    (t ≤ many) × (n ≡ count sheet 0) × (many ≡ count sheet 1) × RunAt run sheet v₀ t v
 
 abbrev μ-loop : tie.MeasureT-loop
-μ-loop run sheet starts x task n many v₀ t₀ v t = many - t
+μ-loop run sheet starts task n many v₀ t₀ v t = many - t
 
 -- what the loop holds
 ranged :
