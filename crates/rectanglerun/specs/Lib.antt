@@ -2,8 +2,6 @@ pub mod Multiples
 pub mod Weights
 pub mod UndoingOrder
 pub mod RowsInTurn
-pub mod Moves
-pub mod MovedAside
 pub mod StagesAgree
 pub mod Runs
 pub mod Turns

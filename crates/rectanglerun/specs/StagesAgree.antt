@@ -37,7 +37,7 @@ use Rattle.joint.specs.Elements.{signAt, diagonalOf, sumsAt, roundedSum, applie
 use Rattle.joint.specs.Allowances.{magnitudeSums, magnitudeSum, wholeRow, allowedAt, allowedOf}
 use Rattle.rows.specs.RowsInPlace.{elementOf, rowOrder, in-place-fill}
 use Rattle.rectanglerun.specs.Multiples.{joint-whole}
-use Rattle.rectanglerun.specs.Moves.{sourceOf}
+use Rattle.pairmoves.specs.Moves.{sourceOf}
 use Rattle.rectanglerun.specs.Weights.{diagonal-there, across-row, magnitude-there, magnitudes-row-is}
 use Rattle.rectanglerun.specs.UndoingOrder.{nthUndonePair, nthRow, pairOrder}
 use Rattle.rectanglerun.specs.UndoingOrder.{weightsBy, pairs-permute, rows-permute, earlier}

@@ -30,8 +30,8 @@ use Rattle.factor.specs.PaddedBlocks.{ranOk, ranStage, outcomeOf, finished, pad
 use Rattle.factor.specs.RunReplies.{start-bounded}
 use Rattle.factor.specs.Steps.{step-goes}
 use Rattle.factor.specs.StageLoops.{Stands, stage-passes, stages-done}
-use Rattle.rectanglerun.specs.Moves.{sourceOf}
-use Rattle.rectanglerun.specs.MovedAside.{placeAt, Places, places-after, MovedInto, moved-over, into-moved, moved-out}
+use Rattle.pairmoves.specs.Moves.{sourceOf}
+use Rattle.pairmoves.specs.MovedAside.{placeAt, Places, places-after, MovedInto, moved-over, into-moved, moved-out}
 use Rattle.rectanglerun.specs.StagesAgree.{Paired, moves-are}
 use Rattle.rectanglerun.specs.Runs.{Matched, paired, sizeOf, size-most, jointRunBy, at-stage, left, left-listed, left-all}
 

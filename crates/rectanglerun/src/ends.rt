@@ -12,7 +12,7 @@ ghost use Rattle.sheetread.specs.Starts.{Starts};
 ghost use Rattle.factor.specs.Tasks.{inputsOf};
 ghost use Rattle.rectanglerun.specs.Runs.{Matched, sizeOf};
 ghost use Rattle.rectanglerun.specs.Turns.{movesInTurn, MovedInTurn, Loaded, StopsAt, Stored};
-use crate::moves::move_into;
+use pairmoves::move_into;
 use factor::block::copy_front;
 use factor::is_move;
 use factor::layout_at;

@@ -2,7 +2,6 @@
 mod triangles; // a pair of lower or of upper factors
 mod singles; // a pair of single-row factors
 mod steps; // a pair of factors with weights, by the task and the kind
-mod moves; // a pair of permutations
 mod stages; // one stage: the factors at two places of the sheets
 mod runs; // the stages of two sheets, one after another
 mod ends; // the copies in and out, with a permutation that comes first or last

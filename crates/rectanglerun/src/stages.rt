@@ -8,7 +8,7 @@ ghost use Rattle.factor.specs.SumBounds.{Bounded};
 ghost use Rattle.factor.specs.Tasks.{limitOf, takenBy};
 ghost use Rattle.factor.specs.Steps.{Step};
 ghost use Rattle.rectanglerun.specs.StagesAgree.{Paired};
-use crate::moves::move_pair;
+use pairmoves::move_pair;
 use crate::steps::run_weights;
 use factor::is_move;
 use factor::layout_at;

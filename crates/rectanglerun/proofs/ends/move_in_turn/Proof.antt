@@ -7,7 +7,7 @@ use Rattle.rules.specs.Answers.{start}
 use Rattle.laws.specs.Accepted.{order-counts}
 use Rattle.laws.specs.Sound.{counts-agree}
 use Rattle.factor.specs.Tasks.{stage-below}
-use Rattle.rectanglerun.specs.MovedAside.{Places}
+use Rattle.pairmoves.specs.MovedAside.{Places}
 use Rattle.rectanglerun.specs.StagesAgree.{Paired}
 use Rattle.rectanglerun.specs.Runs.{paired}
 use Rattle.rectanglerun.specs.Turns.{inTurn, column-places, row-places}

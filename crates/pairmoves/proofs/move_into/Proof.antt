@@ -1,7 +1,7 @@
 -- The order of a row is the number that it is compared with.
 use borrow.Author.Needs.{needs}
-use Rattle.rectanglerun.proofs.moves.move_into.Statement.{statement}
-use Rattle.rectanglerun.proofs.moves.move_into.Tie as tie
+use Rattle.pairmoves.proofs.move_into.Statement.{statement}
+use Rattle.pairmoves.proofs.move_into.Tie as tie
 
 is-inverse-requires : tie.Need-is-inverse-requires
 is-inverse-requires c κs = search needs

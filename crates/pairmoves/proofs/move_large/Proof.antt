@@ -1,9 +1,9 @@
 -- The rows and then the columns take every number where the pair of permutations says (`pair-moved`).
 use native.Mathlib.Omega.{arith}
 use Rattle.factor.specs.Tasks.{isInverse}
-use Rattle.rectanglerun.specs.Moves.{sourceOf, few, rows, columns, pair-moved}
-use Rattle.rectanglerun.proofs.moves.move_large.Statement.{statement}
-use Rattle.rectanglerun.proofs.moves.move_large.Tie as tie
+use Rattle.pairmoves.specs.Moves.{sourceOf, few, rows, columns, pair-moved}
+use Rattle.pairmoves.proofs.move_large.Statement.{statement}
+use Rattle.pairmoves.proofs.move_large.Tie as tie
 
 move-lines-requires : tie.Need-move-lines-requires
 move-lines-requires c κs =

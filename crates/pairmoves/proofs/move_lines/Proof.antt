@@ -4,9 +4,9 @@ use Prim.Native.Nat.{_-_, _≤_}
 use native.Mathlib.Nat.{mul-le-mul-right}
 use native.Mathlib.Omega.{arith}
 use Rattle.factor.specs.Tasks.{isInverse}
-use Rattle.rectanglerun.specs.Moves.{MovedBySheet, no-line, next-line}
-use Rattle.rectanglerun.proofs.moves.move_lines.Statement.{statement}
-use Rattle.rectanglerun.proofs.moves.move_lines.Tie as tie
+use Rattle.pairmoves.specs.Moves.{MovedBySheet, no-line, next-line}
+use Rattle.pairmoves.proofs.move_lines.Statement.{statement}
+use Rattle.pairmoves.proofs.move_lines.Tie as tie
 
 abbrev Inv-loop : tie.InvT-loop
 Inv-loop sheet f task many w s x₀ l₀ x l = (l ≤ many) × MovedBySheet sheet f (isInverse task) l w s x₀ x

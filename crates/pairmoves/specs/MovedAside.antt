@@ -20,7 +20,7 @@ use Rattle.laws.specs.Sound.{places-permute}
 use Rattle.factor.specs.InPlace.{apart}
 use Rattle.factor.specs.MovedInPlace.{toOf, fromOf, scattered, movedBy, length-scattered, scattered-other, scattered-at}
 use Rattle.factor.specs.MovedInPlace.{to-permutes, from-permutes}
-use Rattle.rectanglerun.specs.Moves.{to-is, from-is, all-went}
+use Rattle.pairmoves.specs.Moves.{to-is, from-is, all-went}
 
 -- a permutation of order n whose places stand in a sheet from place i on
 abbrev pub placeAt : List ℤ → ℕ → ℕ → ℕ

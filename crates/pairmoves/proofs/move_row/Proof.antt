@@ -8,9 +8,9 @@ use lib.ListN.{length}
 use mir.Syntax.{w32}
 use Rattle.whole.specs.Machine.{back}
 use Rattle.factor.specs.MovedInPlace.{scattered, length-scattered, to-permutes, from-permutes}
-use Rattle.rectanglerun.specs.MovedAside.{placeAt, movedRow}
-use Rattle.rectanglerun.proofs.moves.move_row.Statement.{statement}
-use Rattle.rectanglerun.proofs.moves.move_row.Tie as tie
+use Rattle.pairmoves.specs.MovedAside.{placeAt, movedRow}
+use Rattle.pairmoves.proofs.move_row.Statement.{statement}
+use Rattle.pairmoves.proofs.move_row.Tie as tie
 
 abbrev Inv-loop : tie.InvT-loop
 Inv-loop row q n way old o x₀ k j₀ x j = (j ≤ n) × (x ≡ movedRow way j (placeAt row q) old o k x₀)

@@ -1,9 +1,9 @@
 -- Both ways are the pair of permutations.
 use borrow.Author.Needs.{needs}
 use native.Mathlib.Omega.{arith}
-use Rattle.rectanglerun.specs.Moves.{few}
-use Rattle.rectanglerun.proofs.moves.move_pair.Statement.{statement}
-use Rattle.rectanglerun.proofs.moves.move_pair.Tie as tie
+use Rattle.pairmoves.specs.Moves.{few}
+use Rattle.pairmoves.proofs.move_pair.Statement.{statement}
+use Rattle.pairmoves.proofs.move_pair.Tie as tie
 
 mul-if1 : tie.Need-mul-if1
 mul-if1 c = omega (arith, few (c .pre .0) (c .pre .1))

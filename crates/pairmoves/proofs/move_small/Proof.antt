@@ -8,10 +8,10 @@ use lib.IntN.{ℤ}
 use Rattle.rules.specs.Numbers.{at}
 use Rattle.rules.specs.Laws.Lists.{fill-at}
 use Rattle.factor.specs.Tasks.{isInverse}
-use Rattle.rectanglerun.specs.Moves.{sourceOf}
-use Rattle.rectanglerun.specs.MovedAside.{into-moved}
-use Rattle.rectanglerun.proofs.moves.move_small.Statement.{statement}
-use Rattle.rectanglerun.proofs.moves.move_small.Tie as tie
+use Rattle.pairmoves.specs.Moves.{sourceOf}
+use Rattle.pairmoves.specs.MovedAside.{into-moved}
+use Rattle.pairmoves.proofs.move_small.Statement.{statement}
+use Rattle.pairmoves.proofs.move_small.Tie as tie
 
 slice-aggregate-copy-front : tie.Need-slice-aggregate-copy-front
 slice-aggregate-copy-front c = search needs

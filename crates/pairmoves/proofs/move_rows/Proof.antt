@@ -5,9 +5,9 @@ use Prim.Native.Nat.{_+_, _-_, _*_, _≤_}
 use native.Mathlib.Nat.{mul-le-mul-right}
 use native.Mathlib.Omega.{arith}
 use Rattle.factor.specs.MovedInPlace.{to-permutes, from-permutes}
-use Rattle.rectanglerun.specs.MovedAside.{placeAt, MovedRows, no-row, next-row}
-use Rattle.rectanglerun.proofs.moves.move_rows.Statement.{statement}
-use Rattle.rectanglerun.proofs.moves.move_rows.Tie as tie
+use Rattle.pairmoves.specs.MovedAside.{placeAt, MovedRows, no-row, next-row}
+use Rattle.pairmoves.proofs.move_rows.Statement.{statement}
+use Rattle.pairmoves.proofs.move_rows.Tie as tie
 
 abbrev Inv-loop : tie.InvT-loop
 Inv-loop col p n1 row q n2 back old x₀ i₀ x i =
