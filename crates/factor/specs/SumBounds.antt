@@ -182,6 +182,18 @@ module _ (B : ℕ) {z v : ℤ} {ok : Bool} (e : z ≡ v) (t : ok ≡ leb (natAbs
   pub test-yes : ok ≡ true → Within B v
   test-yes h = record { within = leb-true (natAbs v) B (told ∙ h) }
 
+-- a number put into place k of a block, or found beyond the bound
+pub record Kept (B : ℕ) (z : ℤ) (k : ℕ) (old : List ℤ) (ok : Bool) (new : List ℤ) : Type 0 where
+  pub told : ok ≡ leb (natAbs z) B
+  pub put : ok ≡ true → new ≡ set old k z
+
+module _ {B : ℕ} {z : ℤ} {k : ℕ} {old : List ℤ} {ok : Bool} {new : List ℤ} (h : Kept B z k old ok new) where
+  pub kept-no : ok ≡ false → leb (natAbs z) B ≡ false
+  kept-no e = sym (h .told) ∙ e
+
+  pub kept-yes : ok ≡ true → Within B z
+  kept-yes e = record { within = leb-true (natAbs z) B (sym (h .told) ∙ e) }
+
 pub bounded-fill : {B : ℕ} (n : ℕ) (f : ℕ → ℤ) {v : List ℤ} → Bounded B v → ((e : ℕ) → Within B (f e)) → Bounded B (fill n f v)
 unfolding fill
 bounded-fill zero f h w = h

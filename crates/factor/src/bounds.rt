@@ -1,8 +1,13 @@
-// Stage 0: the bound of what is lent.
+// The bound: of what is lent, stage 0, and of a number that goes into its block.
 ghost use mathlib.Core.Path.{_≡_};
+ghost use Prim.Native.Nat.{_<_};
+ghost use lib.Dec.{T};
+ghost use lib.IntN.{natAbs};
 ghost use lib.ListN.{length};
+ghost use lib.Signed.{nonNeg};
 ghost use Rattle.rules.specs.Numbers.{bound};
 ghost use Rattle.rules.specs.Stages.{inside};
+ghost use Rattle.factor.specs.SumBounds.{Kept};
 use crate::rounding::is_within;
 use rules::Block;
 
@@ -23,4 +28,16 @@ pub fn is_inside(x: &[i32]) -> bool
         fine = fine & is_within(wide(x[k]), Block::SAMPLE);
     }
     fine
+}
+
+// A number into place k of a block, if it lies between -most and most. Answers whether it does.
+pub fn keep(z: i64, most: i32, x: &mut [i32], k: usize) -> bool
+    requires { ⌜ T (nonNeg most) × (k < length (now x)) ⌝ }
+    ensures { λ r. ⌜ Kept (natAbs most) z k (now (x .entry)) r (now (x .exit)) ⌝ }
+{
+    if !is_within(z, most) {
+        return false;
+    }
+    x[k] = z as i32;
+    true
 }

@@ -1,5 +1,5 @@
 -- A BLOCK MADE TURN BY TURN: in turn t its element p t becomes z t. A number beyond the bound stays, so it refuses the stage.
-use mathlib.Core.Bool.{true, false}
+use mathlib.Core.Bool.{Bool, true, false}
 use mathlib.Core.List.{List}
 use mathlib.Core.Path.{_≡_, sym, ap, _∙_}
 use Prim.Native.Nat.{ℕ, _+_, _<_}
@@ -14,7 +14,7 @@ use Rattle.rules.specs.Numbers.{bound, at}
 use Rattle.rules.specs.Stages.{fill}
 use Rattle.rules.specs.Laws.Lists.{fill-at}
 use Rattle.factor.specs.declared.Layout.{Layout}
-use Rattle.factor.specs.SumBounds.{Bounded, bounded-set, beyond-there}
+use Rattle.factor.specs.SumBounds.{Bounded, bounded-set, beyond-there, Kept, kept-no, kept-yes}
 use Rattle.factor.specs.LayoutInSheet.{InSheet}
 use Rattle.factor.specs.InPlace.{inPlace, in-place-stays}
 use Rattle.factor.specs.UndoingOrder.{nthUndone, undoing-permutes}
@@ -40,6 +40,14 @@ module _ {n : ℕ} {g : ℕ → List ℤ} {p : ℕ → ℕ} {z : ℕ → ℤ} (f
 
   pub filled-stops : {b : List ℤ} (t : ℕ) → t < n → leb (natAbs (z t)) bound ≡ false → Step bound n (g n) false b
   filled-stops t l h = step-stops (beyond-there bound n (g n) (p t) (z t) (f .below t l) (f .kept t l) h)
+
+  -- the code has put z t into its place, or found it beyond the bound; v is that number as the code holds it
+  module _ {t : ℕ} {y new : List ℤ} {v : ℤ} {ok : Bool} (l : t < n) (e : v ≡ z t) (k : Kept bound v (p t) y ok new) where
+    pub filled-next : Filled g t y → ok ≡ true → Filled g (t + 1) new
+    filled-next h o = rw (k .put o, e) (filled-more l h (rw e at (kept-yes k o)))
+
+    pub filled-refused : {b : List ℤ} → ok ≡ false → Step bound n (g n) false b
+    filled-refused o = filled-stops t l (rw e at (kept-no k o))
 
   pub filled-done : {t : ℕ} {y : List ℤ} → t ≡ n → Filled g t y → Step bound n (g n) true y
   filled-done e h = step-goes (h .is ∙ ap g e) (h .small)

@@ -11,19 +11,17 @@ ghost use Rattle.factor.specs.LayoutInSheet.{InSheet};
 ghost use Rattle.factor.specs.Steps.{Step};
 ghost use Rattle.linerun.specs.Steps.{ElementGiven, roundedSum, appliedAt, undoneInPlace};
 use crate::steps::Passed;
-use crate::steps::applied_at;
-use crate::steps::undone_at;
+use crate::steps::apply_at;
+use crate::steps::undo_at;
 use factor::Layout;
 use factor::before_lower;
 use factor::nth_undone;
-use factor::rounding::is_within;
 use factor::rounding::round_line;
 use factor::row_of;
 use factor::run::Outcome;
 use factor::sums::products_sum;
 use factor::sums::products_sum_from;
 use factor::sums::row_sum;
-use rules::Block;
 use rules::Kind;
 use rules::Rule;
 
@@ -65,8 +63,8 @@ pub fn lower(rule: Rule, sheet: &[i32], f: Layout, x: [i32; 16]) -> Passed
     let mut y = x;
     let mut p = f.entries;
     for m in 0..n {
-        let z = applied_at(sheet, f, m, &x, left_sum(rule, sheet, f, p, m, &x));
-        if !is_within(z, Block::SAMPLE) {
+        let q = left_sum(rule, sheet, f, p, m, &x);
+        if !apply_at(sheet, f, m, q, &x, &mut y) {
             return Passed {
                 block: y,
                 outcome: Outcome {
@@ -75,7 +73,6 @@ pub fn lower(rule: Rule, sheet: &[i32], f: Layout, x: [i32; 16]) -> Passed
                 },
             };
         }
-        y[m] = z as i32;
         p = p + m;
     }
     Passed {
@@ -94,8 +91,8 @@ pub fn upper(rule: Rule, sheet: &[i32], f: Layout, x: [i32; 16]) -> Passed
     let mut y = x;
     let mut p = f.entries;
     for m in 0..n {
-        let z = applied_at(sheet, f, m, &x, right_sum(rule, sheet, f, p, m, &x));
-        if !is_within(z, Block::SAMPLE) {
+        let q = right_sum(rule, sheet, f, p, m, &x);
+        if !apply_at(sheet, f, m, q, &x, &mut y) {
             return Passed {
                 block: y,
                 outcome: Outcome {
@@ -104,7 +101,6 @@ pub fn upper(rule: Rule, sheet: &[i32], f: Layout, x: [i32; 16]) -> Passed
                 },
             };
         }
-        y[m] = z as i32;
         p = p + (n - 1 - m);
     }
     Passed {
@@ -122,8 +118,8 @@ pub fn single(rule: Rule, sheet: &[i32], f: Layout, x: [i32; 16]) -> Passed
     let n = f.order;
     let mut y = x;
     for m in 0..n {
-        let z = applied_at(sheet, f, m, &x, single_sum(rule, sheet, f, m, &x));
-        if !is_within(z, Block::SAMPLE) {
+        let q = single_sum(rule, sheet, f, m, &x);
+        if !apply_at(sheet, f, m, q, &x, &mut y) {
             return Passed {
                 block: y,
                 outcome: Outcome {
@@ -132,7 +128,6 @@ pub fn single(rule: Rule, sheet: &[i32], f: Layout, x: [i32; 16]) -> Passed
                 },
             };
         }
-        y[m] = z as i32;
     }
     Passed {
         block: y,
@@ -151,8 +146,8 @@ pub fn lower_back(rule: Rule, sheet: &[i32], f: Layout, y: [i32; 16]) -> Passed
     let mut p = f.entries;
     for t in 0..n {
         let m = t;
-        let z = undone_at(sheet, f, m, &x, left_sum(rule, sheet, f, p, m, &x));
-        if !is_within(z, Block::SAMPLE) {
+        let q = left_sum(rule, sheet, f, p, m, &x);
+        if !undo_at(sheet, f, m, q, &mut x) {
             return Passed {
                 block: x,
                 outcome: Outcome {
@@ -161,7 +156,6 @@ pub fn lower_back(rule: Rule, sheet: &[i32], f: Layout, y: [i32; 16]) -> Passed
                 },
             };
         }
-        x[m] = z as i32;
         p = p + m;
     }
     Passed {
@@ -182,8 +176,8 @@ pub fn upper_back(rule: Rule, sheet: &[i32], f: Layout, y: [i32; 16]) -> Passed
     for t in 0..n {
         let m = n - 1 - t;
         p = p - t;
-        let z = undone_at(sheet, f, m, &x, right_sum(rule, sheet, f, p, m, &x));
-        if !is_within(z, Block::SAMPLE) {
+        let q = right_sum(rule, sheet, f, p, m, &x);
+        if !undo_at(sheet, f, m, q, &mut x) {
             return Passed {
                 block: x,
                 outcome: Outcome {
@@ -192,7 +186,6 @@ pub fn upper_back(rule: Rule, sheet: &[i32], f: Layout, y: [i32; 16]) -> Passed
                 },
             };
         }
-        x[m] = z as i32;
     }
     Passed {
         block: x,
@@ -210,8 +203,8 @@ pub fn single_back(rule: Rule, sheet: &[i32], f: Layout, y: [i32; 16]) -> Passed
     let mut x = y;
     for t in 0..n {
         let m = nth_undone(f, t);
-        let z = undone_at(sheet, f, m, &x, single_sum(rule, sheet, f, m, &x));
-        if !is_within(z, Block::SAMPLE) {
+        let q = single_sum(rule, sheet, f, m, &x);
+        if !undo_at(sheet, f, m, q, &mut x) {
             return Passed {
                 block: x,
                 outcome: Outcome {
@@ -220,7 +213,6 @@ pub fn single_back(rule: Rule, sheet: &[i32], f: Layout, y: [i32; 16]) -> Passed
                 },
             };
         }
-        x[m] = z as i32;
     }
     Passed {
         block: x,

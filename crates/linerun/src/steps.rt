@@ -4,10 +4,10 @@ ghost use mathlib.Core.Bool.{cond};
 ghost use Prim.Native.Nat.{_+_, _<_};
 ghost use lib.IntN.{pos, _+ℤ_, _-ℤ_, _*ℤ_};
 ghost use Rattle.whole.specs.Diff.{Within};
-ghost use Rattle.rules.specs.Numbers.{mostAllowance, at};
+ghost use Rattle.rules.specs.Numbers.{bound, mostAllowance, at};
 ghost use Rattle.rules.specs.Stages.{share, fill};
 ghost use Rattle.factor.specs.Layouts.{along};
-ghost use Rattle.factor.specs.SumBounds.{Bounded, RowIn};
+ghost use Rattle.factor.specs.SumBounds.{Bounded, RowIn, Kept};
 ghost use Rattle.factor.specs.LayoutInSheet.{InSheet};
 ghost use Rattle.factor.specs.Magnitudes.{Entries, whole, magnitudeAt};
 ghost use Rattle.factor.specs.Steps.{Step};
@@ -15,6 +15,7 @@ ghost use Rattle.linerun.specs.Steps.{ElementGiven, allowedAt};
 ghost use Rattle.linerun.specs.LineBounds.{mostRounded};
 use factor::Layout;
 use factor::Row;
+use factor::bounds::keep;
 use factor::magnitudes::are_whole;
 use factor::magnitudes::magnitudes;
 use factor::rounding::applied;
@@ -29,28 +30,37 @@ use factor::sums::row_sum;
 use rules::Block;
 use rules::Rule;
 
-// The block by value, and how it ended: the new block where every number is in bound, else the block as it was.
+// The block by value, and how it ended. Nobody looks at the block of a stage that is refused.
 pub struct Passed {
     pub block: [i32; 16],
     pub outcome: Outcome,
 }
 
-// What element m becomes, by the rounded sum q of its row.
-pub fn applied_at(sheet: &[i32], f: Layout, m: usize, x: &[i32; 16], q: i64) -> i64
+// Element m of the new block y, from the old block x and the rounded sum q of its row, if it is in bound. Answers whether it is.
+pub fn apply_at(
+    sheet: &[i32],
+    f: Layout,
+    m: usize,
+    q: i64,
+    x: &[i32; 16],
+    y: &mut [i32; 16],
+) -> bool
     requires { ⌜ ElementGiven (now sheet) f m (now x) × Within mostRounded q ⌝ }
-    ensures { λ r. ⌜ r ≡ (at (now (sheet .entry)) (f .signs + m) *ℤ at (now (x .entry)) m) +ℤ q ⌝ }
+    ensures { λ r. ⌜ Kept bound ((at (now (sheet .entry)) (f .signs + m) *ℤ at (now (x .entry)) m) +ℤ q) m
+        (now (y .entry)) r (now (y .exit)) ⌝ }
 {
     let signs = f.signs;
-    applied(sheet[signs + m], x[m], q)
+    keep(applied(sheet[signs + m], x[m], q), Block::SAMPLE, y, m)
 }
 
-// What element m was, by the rounded sum q of its row.
-pub fn undone_at(sheet: &[i32], f: Layout, m: usize, x: &[i32; 16], q: i64) -> i64
+// What element m was, by the rounded sum q of its row, in its place in the block, if it is in bound. Answers whether it is.
+pub fn undo_at(sheet: &[i32], f: Layout, m: usize, q: i64, x: &mut [i32; 16]) -> bool
     requires { ⌜ ElementGiven (now sheet) f m (now x) × Within mostRounded q ⌝ }
-    ensures { λ r. ⌜ r ≡ at (now (sheet .entry)) (f .signs + m) *ℤ (at (now (x .entry)) m -ℤ q) ⌝ }
+    ensures { λ r. ⌜ Kept bound (at (now (sheet .entry)) (f .signs + m) *ℤ (at (now (x .entry)) m -ℤ q)) m
+        (now (x .entry)) r (now (x .exit)) ⌝ }
 {
     let signs = f.signs;
-    undone(sheet[signs + m], x[m], q)
+    keep(undone(sheet[signs + m], x[m], q), Block::SAMPLE, x, m)
 }
 
 // What the rounding of a row adds, unless all its entries are multiples of 4096.

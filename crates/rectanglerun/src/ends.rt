@@ -12,13 +12,13 @@ ghost use Rattle.sheetread.specs.Starts.{Starts};
 ghost use Rattle.factor.specs.Tasks.{inputsOf};
 ghost use Rattle.rectanglerun.specs.Runs.{Matched, sizeOf};
 ghost use Rattle.rectanglerun.specs.Turns.{movesInTurn, MovedInTurn, Loaded, StopsAt, Stored};
-use pairmoves::move_into;
 use factor::block::copy_front;
 use factor::is_move;
 use factor::layout_at;
 use factor::run::Run;
 use factor::run::Task;
 use factor::run::nth_start;
+use pairmoves::move_into;
 use sheetread::factors::count_at;
 
 // Whether the factor in turn t is a permutation.

@@ -8,12 +8,12 @@ ghost use Rattle.factor.specs.SumBounds.{Bounded};
 ghost use Rattle.factor.specs.Tasks.{limitOf, takenBy};
 ghost use Rattle.factor.specs.Steps.{Step};
 ghost use Rattle.rectanglerun.specs.StagesAgree.{Paired};
-use pairmoves::move_pair;
 use crate::steps::run_weights;
 use factor::is_move;
 use factor::layout_at;
 use factor::run::Outcome;
 use factor::run::Run;
+use pairmoves::move_pair;
 
 // A pair of permutations moves the numbers, and can leave no bound; a pair of factors with weights makes new ones.
 pub fn run_stage(

@@ -6,20 +6,18 @@ use mathlib.Core.Path.{_≡_, refl, sym, _∙_}
 use Prim.Native.Nat.{ℕ, _+_, _-_, _≤_, _<_}
 use native.Mathlib.Numerals.{add-one}
 use native.Mathlib.Omega.{arith}
-use lib.IntN.{ℤ}
+use lib.IntN.{ℤ, _-ℤ_, _*ℤ_}
 use lib.ListN.{length}
-use mir.Syntax.{w32, w64}
+use mir.Syntax.{w64}
 use mir.Val.{toZ, ofZ}
-use Rattle.whole.specs.Diff.{Within}
-use Rattle.whole.specs.Machine.{fits, reads, back}
-use Rattle.rules.specs.Numbers.{bound}
+use Rattle.whole.specs.Machine.{back}
+use Rattle.rules.specs.Numbers.{at}
 use Rattle.rules.specs.Sheets.{triangle}
-use Rattle.factor.specs.SumBounds.{test-no, test-yes}
 use Rattle.factor.specs.InPlace.{inPlace}
 use Rattle.factor.specs.UndoingOrder.{nthUndone}
 use Rattle.linerun.specs.Steps.{roundedSum, undoneAt, undoneInPlace}
 use Rattle.linerun.specs.LineBounds.{rounded-sum-small}
-use Rattle.linerun.specs.Filling.{Filling, Filled, filled-more, filled-stops, filled-done, undone-fills}
+use Rattle.linerun.specs.Filling.{Filling, Filled, filled-next, filled-refused, filled-done, undone-fills}
 use Rattle.linerun.specs.RowsByKind.{lower-at, lower-left}
 use Rattle.linerun.proofs.kinds.lower_back.Statement.{statement}
 use Rattle.linerun.proofs.kinds.lower_back.Tie as tie
@@ -58,7 +56,7 @@ turn c = let l = c .loop-test .taken in omega (arith, c .before .loop .inv .1)
 
 left-sum-requires : tie.Need-left-sum-requires Inv-loop μ-loop
 left-sum-requires c κs =
-    let i = c .before .before in
+    let i = c .before in
     let l = i .before in
     let s = l .before in (
       (s .pre .0, (turn i), l .loop .inv .3 .small),
@@ -70,79 +68,41 @@ left-sum-requires c κs =
 -- the rounded sum, as it was read
 sum :
     (c : tie.After-left-sum Inv-loop μ-loop) →
-    let i = c .before .before .before in
-    let l = i .before in
+    let l = c .before .before .before in
     let s = l .before in
     toZ w64 (ofZ w64 (c .left-sum .result)) ≡ roundedSum (s .args .rule) (s .args .sheet .now) (s .args .f) (l .loop .x)
-    (i .before .loop .t)
+    (l .loop .t)
 sum c = back w64 _ (c .left-sum .ok) ∙ c .left-sum .ensures
 
-undone-at-requires : tie.Need-undone-at-requires Inv-loop μ-loop
-undone-at-requires c κs =
+undo-at-requires : tie.Need-undo-at-requires Inv-loop μ-loop
+undo-at-requires c κs =
     let i = c .before .before .before in
     let l = i .before in
     let s = l .before in (
-      (s .pre .0, (turn i), l .loop .inv .3 .small),
-      rw (sum c)
-          (rounded-sum-small (s .pre .0) (i .before .loop .t) (turn i) (s .args .rule) (l .loop .inv .3 .small)),
+      (s .pre .0, turn i, l .loop .inv .3 .small),
+      rw (sum (c .before)) (rounded-sum-small (s .pre .0) (l .loop .t) (turn i) (s .args .rule) (l .loop .inv .3 .small)),
     )
 
+-- what the element was
 value :
-    (c : tie.After-undone-at Inv-loop μ-loop) →
-    let i = c .before .before .before .before in
-    let l = i .before in
+    (c : tie.After-undo-at Inv-loop μ-loop) →
+    let l = c .before .before .before .before .before in
     let s = l .before in
-    toZ w64 (ofZ w64 (c .undone-at .result)) ≡ F s (l .loop .t)
+    let m = l .loop .t in
+    let q = c .before .before .left-sum .result in
+    at (s .args .sheet .now) (s .args .f .signs + m) *ℤ (at (l .loop .x) m -ℤ toZ w64 (ofZ w64 q)) ≡ F s (l .loop .t)
 unfolding undoneAt
-value c =
-    let i = c .before .before .before .before in
-    let l = i .before in
-    let s = l .before in
-    back w64 _ (c .undone-at .ok) ∙ c .undone-at .ensures ∙ rw (sum (c .before), l .loop .inv .3 .is)
-
-is-within-requires : tie.Need-is-within-requires Inv-loop μ-loop
-is-within-requires c κs = tt
+value c = rw (sum (c .before .before), c .before .before .before .before .before .loop .inv .3 .is)
 
 returns : tie.Need-returns Inv-loop μ-loop
 returns c =
-    let i = c .before .before .before .before .before .before in
+    let i = c .before .before .before .before .before in
     let l = i .before in
-    let s = l .before in
-    filled-stops (fills s) (l .loop .t) (turn i)
-    (test-no bound (value (c .before .before)) (c .before .is-within .ensures) (not-true _ (c .if1 .taken)))
-
-held :
-    (c : tie.Else1 Inv-loop μ-loop) →
-    let i = c .before .before .before .before .before .before in
-    let l = i .before in
-    let s = l .before in
-    Within bound (F s (l .loop .t))
-held c = test-yes bound (value (c .before .before)) (c .before .is-within .ensures) (not-false _ (c .if1 .left))
-
-cast-x : tie.Need-cast-x Inv-loop μ-loop
-cast-x c = rw (value (c .before .before)) (fits (held c) tt)
-
-mul-x : tie.Need-mul-x Inv-loop μ-loop
-mul-x c =
-    let i = c .before .before .before .before .before .before in
-    let l = i .before in
-    let s = l .before in
-    let h = turn i in
-    let o = s .pre .0 .order in
-    omega arith
-
-array-set-from-x : tie.Need-array-set-from-x Inv-loop μ-loop
-array-set-from-x c =
-    let i = c .before .before .before .before .before .before in
-    let l = i .before in
-    let s = l .before in
-    let h = turn i in
-    let o = s .pre .0 .order in
-    omega arith
+    filled-refused (fills (l .before)) (turn i) (value (c .before)) (c .before .undo-at .ensures) (not-true _ (c .if1 .taken))
 
 add-p : tie.Need-add-p Inv-loop μ-loop
 add-p c =
-    let i = c .before .before .before .before .before .before in
+    let i = c .before .before .before .before .before in
     let l = i .before in
     let s = l .before in
     let r = s .pre .0 .row (l .loop .t) (turn i) .room in
@@ -165,13 +125,14 @@ loop-less c = omega arith
 loop-again : tie.Need-loop-again Inv-loop μ-loop
 unfolding triangle
 loop-again c =
-    let i = c .before .before .before .before .before .before in
+    let i = c .before .before .before .before .before in
     let l = i .before in
     let s = l .before in (
       omega arith,
       l .loop .inv .1,
       let e : triangle (l .loop .t + 1) ≡ triangle (l .loop .t) + l .loop .t = rw add-one in omega (arith, l .loop .inv .2),
-      rw (value (c .before .before), reads w32 (held c) tt) (filled-more (fills s) (turn i) (l .loop .inv .3) (held c)),
+      filled-next (fills s) (turn i) (value (c .before)) (c .before .undo-at .ensures) (l .loop .inv .3)
+          (not-false _ (c .if1 .left)),
     )
 
 returns-2 : tie.Need-returns-2 Inv-loop μ-loop
@@ -182,5 +143,4 @@ returns-2 c =
 pub lower-back-spec : {M : Type 1} → statement M
 lower-back-spec =
     tie.close
-    (tie.spec Inv-loop μ-loop loop-holds left-sum-requires undone-at-requires is-within-requires returns cast-x mul-x
-    array-set-from-x add-p add-t loop-less loop-again returns-2)
+    (tie.spec Inv-loop μ-loop loop-holds left-sum-requires undo-at-requires returns add-p add-t loop-less loop-again returns-2)

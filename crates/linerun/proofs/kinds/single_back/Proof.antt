@@ -3,21 +3,19 @@ use borrow.Author.Needs.{needs}
 use borrow.Author.Tests.{not-true, not-false}
 use mathlib.Core.List.{List}
 use mathlib.Core.Path.{_≡_, refl, _∙_}
-use Prim.Native.Nat.{ℕ, _-_, _≤_, _<_}
+use Prim.Native.Nat.{ℕ, _+_, _-_, _≤_, _<_}
 use native.Mathlib.Omega.{arith}
-use lib.IntN.{ℤ}
+use lib.IntN.{ℤ, _-ℤ_, _*ℤ_}
 use lib.ListN.{length}
-use mir.Syntax.{w32, w64}
+use mir.Syntax.{w64}
 use mir.Val.{toZ, ofZ}
-use Rattle.whole.specs.Diff.{Within}
-use Rattle.whole.specs.Machine.{fits, reads, back}
-use Rattle.rules.specs.Numbers.{bound}
-use Rattle.factor.specs.SumBounds.{test-no, test-yes}
+use Rattle.whole.specs.Machine.{back}
+use Rattle.rules.specs.Numbers.{at}
 use Rattle.factor.specs.InPlace.{inPlace}
 use Rattle.factor.specs.UndoingOrder.{nthUndone}
 use Rattle.linerun.specs.Steps.{roundedSum, undoneAt, undoneInPlace}
 use Rattle.linerun.specs.LineBounds.{rounded-sum-small}
-use Rattle.linerun.specs.Filling.{Filling, Filled, filled-more, filled-stops, filled-done, undone-fills}
+use Rattle.linerun.specs.Filling.{Filling, Filled, filled-next, filled-refused, filled-done, undone-fills}
 use Rattle.linerun.proofs.kinds.single_back.Statement.{statement}
 use Rattle.linerun.proofs.kinds.single_back.Tie as tie
 
@@ -63,8 +61,8 @@ small-place c =
 
 single-sum-requires : tie.Need-single-sum-requires Inv-loop μ-loop
 single-sum-requires c κs =
-    let i0 = c .before .before in
-    let i = c .before .before .before in
+    let i0 = c .before in
+    let i = c .before .before in
     let l = i .before in
     let s = l .before in
     ((s .pre .0, (small-place i0), l .loop .inv .2 .small), s .pre .1)
@@ -72,80 +70,39 @@ single-sum-requires c κs =
 -- the rounded sum, as it was read
 sum :
     (c : tie.After-single-sum Inv-loop μ-loop) →
-    let i0 = c .before .before .before in
-    let i = c .before .before .before .before in
-    let l = i .before in
+    let i0 = c .before .before in
+    let l = c .before .before .before .before in
     let s = l .before in
     toZ w64 (ofZ w64 (c .single-sum .result)) ≡ roundedSum (s .args .rule) (s .args .sheet .now) (s .args .f) (l .loop .x)
     (i0 .nth-undone .result)
 sum c = back w64 _ (c .single-sum .ok) ∙ c .single-sum .ensures
 
-undone-at-requires : tie.Need-undone-at-requires Inv-loop μ-loop
-undone-at-requires c κs =
+undo-at-requires : tie.Need-undo-at-requires Inv-loop μ-loop
+undo-at-requires c κs =
     let i0 = c .before .before .before in
     let i = c .before .before .before .before in
     let l = i .before in
     let s = l .before in (
       (s .pre .0, (small-place i0), l .loop .inv .2 .small),
-      rw (sum c)
-          (rounded-sum-small (s .pre .0) (i0 .nth-undone .result) (small-place i0) (s .args .rule) (l .loop .inv .2 .small)),
+      rw (sum (c .before)) (rounded-sum-small (s .pre .0) (i0 .nth-undone .result) (small-place i0) (s .args .rule) (l .loop .inv .2 .small)),
     )
 
+-- what the element was
 value :
-    (c : tie.After-undone-at Inv-loop μ-loop) →
-    let i = c .before .before .before .before .before in
-    let l = i .before in
+    (c : tie.After-undo-at Inv-loop μ-loop) →
+    let l = c .before .before .before .before .before .before in
     let s = l .before in
-    toZ w64 (ofZ w64 (c .undone-at .result)) ≡ F s (l .loop .t)
+    let m = P s (l .loop .t) in
+    let q = c .before .before .single-sum .result in
+    at (s .args .sheet .now) (s .args .f .signs + m) *ℤ (at (l .loop .x) m -ℤ toZ w64 (ofZ w64 q)) ≡ F s (l .loop .t)
 unfolding undoneAt
-value c =
-    let i0 = c .before .before .before .before in
-    let i = c .before .before .before .before .before in
-    let l = i .before in
-    let s = l .before in
-    back w64 _ (c .undone-at .ok) ∙ c .undone-at .ensures ∙ rw (sum (c .before), i0 .nth-undone .ensures, l .loop .inv .2 .is)
-
-is-within-requires : tie.Need-is-within-requires Inv-loop μ-loop
-is-within-requires c κs = tt
+value c = rw (sum (c .before .before), c .before .before .before .before .nth-undone .ensures, c .before .before .before .before .before .before .loop .inv .2 .is)
 
 returns : tie.Need-returns Inv-loop μ-loop
 returns c =
-    let i = c .before .before .before .before .before .before .before in
+    let i = c .before .before .before .before .before .before in
     let l = i .before in
-    let s = l .before in
-    filled-stops (fills s) (l .loop .t) (turn i)
-    (test-no bound (value (c .before .before)) (c .before .is-within .ensures) (not-true _ (c .if1 .taken)))
-
-held :
-    (c : tie.Else1 Inv-loop μ-loop) →
-    let i = c .before .before .before .before .before .before .before in
-    let l = i .before in
-    let s = l .before in
-    Within bound (F s (l .loop .t))
-held c = test-yes bound (value (c .before .before)) (c .before .is-within .ensures) (not-false _ (c .if1 .left))
-
-cast-x : tie.Need-cast-x Inv-loop μ-loop
-cast-x c = rw (value (c .before .before)) (fits (held c) tt)
-
-mul-x : tie.Need-mul-x Inv-loop μ-loop
-mul-x c =
-    let i0 = c .before .before .before .before .before .before in
-    let i = c .before .before .before .before .before .before .before in
-    let l = i .before in
-    let s = l .before in
-    let h = small-place i0 in
-    let o = s .pre .0 .order in
-    omega arith
-
-array-set-from-x : tie.Need-array-set-from-x Inv-loop μ-loop
-array-set-from-x c =
-    let i0 = c .before .before .before .before .before .before in
-    let i = c .before .before .before .before .before .before .before in
-    let l = i .before in
-    let s = l .before in
-    let h = small-place i0 in
-    let o = s .pre .0 .order in
-    omega arith
+    filled-refused (fills (l .before)) (turn i) (value (c .before)) (rw (c .before .before .before .before .before .nth-undone .ensures) at (c .before .undo-at .ensures)) (not-true _ (c .if1 .taken))
 
 add-t : tie.Need-add-t Inv-loop μ-loop
 add-t c = omega arith
@@ -156,14 +113,13 @@ loop-less c = omega arith
 loop-again : tie.Need-loop-again Inv-loop μ-loop
 unfolding inPlace
 loop-again c =
-    let i0 = c .before .before .before .before .before .before in
-    let i = c .before .before .before .before .before .before .before in
+    let i = c .before .before .before .before .before .before in
     let l = i .before in
     let s = l .before in (
       omega arith,
       l .loop .inv .1,
-      rw (i0 .nth-undone .ensures, value (c .before .before), reads w32 (held c) tt)
-          (filled-more (fills s) (turn i) (l .loop .inv .2) (held c)),
+      filled-next (fills s) (turn i) (value (c .before)) (rw (c .before .before .before .before .before .nth-undone .ensures) at (c .before .undo-at .ensures)) (l .loop .inv .2)
+          (not-false _ (c .if1 .left)),
     )
 
 returns-2 : tie.Need-returns-2 Inv-loop μ-loop
@@ -174,5 +130,4 @@ returns-2 c =
 pub single-back-spec : {M : Type 1} → statement M
 single-back-spec =
     tie.close
-    (tie.spec Inv-loop μ-loop loop-holds nth-undone-requires single-sum-requires undone-at-requires is-within-requires returns
-    cast-x mul-x array-set-from-x add-t loop-less loop-again returns-2)
+    (tie.spec Inv-loop μ-loop loop-holds nth-undone-requires single-sum-requires undo-at-requires returns add-t loop-less loop-again returns-2)
