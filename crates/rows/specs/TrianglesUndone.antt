@@ -63,7 +63,8 @@ RunUndone rule c fa r fb i a b x y v ok =
     × (ok ≡ true → Recovered c fa i fb b y v)
 
 -- t turns of row i are done, x the block before it, y and v as they are now
-pub record UndoneTo (rule : Rule) (c : List ℤ) (fa : Layout) (r : List ℤ) (fb : Layout) (i : ℕ) (x : List ℤ) (t : ℕ) (y v : List ℤ) : Type 0 where
+pub record UndoneTo (rule : Rule) (c : List ℤ) (fa : Layout) (r : List ℤ) (fb : Layout) (i : ℕ) (x : List ℤ) (t : ℕ)
+    (y v : List ℤ) : Type 0 where
   pub done : RowDone bound (undoneOf rule c fa r fb) (undoneTurn fb i) t x y true
   pub given : UndoGiven c fa r fb i t y v
 
@@ -154,7 +155,8 @@ undo-start {c} {r} {x} {v} {fa} {fb} {i} h e z =
         sums = recovered-sums-start c fa i fb (h .low) (h .row .order) x z;
         small =
             rw z
-            (rest-sums-small (fb .order) (row-wide (h .column .order) (h .column .row i (h .below))) (bounded-le (omega arith) (h .small)));
+            (rest-sums-small (fb .order) (row-wide (h .column .order) (h .column .row i (h .below)))
+            (bounded-le (omega arith) (h .small)));
         long = ap length z ∙ length-fill _ _ _;
       };
     }

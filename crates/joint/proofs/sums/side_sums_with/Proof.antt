@@ -44,7 +44,8 @@ returns-2 c =
     let r = c .before .before in
     let s = r .before .before .before .before in
     c .add-rows .ensures
-    ∙ rw (r .add-row .ensures, s .pre .1, toZ-ofZ (s .fits .diagonal)) (added-twice (s .args .n) _ _ (replicate 16 (pos 0)) (s .pre .0 .wide))
+    ∙ rw (r .add-row .ensures, s .pre .1, toZ-ofZ (s .fits .diagonal))
+    (added-twice (s .args .n) _ _ (replicate 16 (pos 0)) (s .pre .0 .wide))
 
 pub side-sums-with-spec : {M : Type 1} → statement M
 side-sums-with-spec =

@@ -74,7 +74,9 @@ loop-again c =
       refl,
       c .put-four .ensures
           ∙ four-more (rowsSum (s .a .now) (s .p) (s .m) (s .x .now) (s .k) (s .n)) g _ _
-          (a .add-rows .ensures ∙ fill-same 4 _ _ (replicate 16 (pos 0)) (λ d b. rw (four-rows (s .a .now) (s .p) (s .m) (s .x .now) (s .k) (s .n) (4 * g) d)))
+          (a .add-rows .ensures
+          ∙ fill-same 4 _ _ (replicate 16 (pos 0))
+          (λ d b. rw (four-rows (s .a .now) (s .p) (s .m) (s .x .now) (s .k) (s .n) (4 * g) d)))
           (i .before .loop .inv .2),
     )
 

@@ -27,7 +27,9 @@ sub-apply-lower-row-2 : tie.Need-sub-apply-lower-row-2 Inv-loop μ-loop
 sub-apply-lower-row-2 c = omega arith
 
 -- the row of this turn
-turn : (i : tie.In-loop Inv-loop μ-loop) → i .before .before .args .fa .order - 1 - i .before .loop .s ≡ nthRow Forward (i .before .before .args .fa) (i .before .loop .s)
+turn : (i : tie.In-loop Inv-loop μ-loop) →
+    i .before .before .args .fa .order - 1 - i .before .loop .s
+    ≡ nthRow Forward (i .before .before .args .fa) (i .before .loop .s)
 turn i =
     let s = i .before .before in
     lower-applied (s .args .fa) (i .before .loop .s) (s .pre .0 .alike ∙ s .pre .1) (i .loop-test .taken)
@@ -71,5 +73,5 @@ returns-2 c =
 pub apply-lower-rows-spec : {M : Type 1} → statement M
 apply-lower-rows-spec =
     tie.close
-    (tie.spec Inv-loop μ-loop loop-holds sub-apply-lower-row sub-apply-lower-row-2 apply-lower-row-requires returns add-s loop-less loop-again
-    returns-2)
+    (tie.spec Inv-loop μ-loop loop-holds sub-apply-lower-row sub-apply-lower-row-2 apply-lower-row-requires
+    returns add-s loop-less loop-again returns-2)

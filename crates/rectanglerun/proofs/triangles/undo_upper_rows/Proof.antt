@@ -27,7 +27,9 @@ sub-undo-upper-row-2 : tie.Need-sub-undo-upper-row-2 Inv-loop μ-loop
 sub-undo-upper-row-2 c = omega arith
 
 -- the row of this turn
-turn : (i : tie.In-loop Inv-loop μ-loop) → i .before .before .args .fa .order - 1 - i .before .loop .s ≡ nthRow Inverse (i .before .before .args .fa) (i .before .loop .s)
+turn : (i : tie.In-loop Inv-loop μ-loop) →
+    i .before .before .args .fa .order - 1 - i .before .loop .s
+    ≡ nthRow Inverse (i .before .before .args .fa) (i .before .loop .s)
 turn i =
     let s = i .before .before in
     upper-undone (s .args .fa) (i .before .loop .s) (s .pre .0 .alike ∙ s .pre .1) (i .loop-test .taken)
@@ -71,5 +73,5 @@ returns-2 c =
 pub undo-upper-rows-spec : {M : Type 1} → statement M
 undo-upper-rows-spec =
     tie.close
-    (tie.spec Inv-loop μ-loop loop-holds sub-undo-upper-row sub-undo-upper-row-2 undo-upper-row-requires returns add-s loop-less loop-again
-    returns-2)
+    (tie.spec Inv-loop μ-loop loop-holds sub-undo-upper-row sub-undo-upper-row-2 undo-upper-row-requires
+    returns add-s loop-less loop-again returns-2)

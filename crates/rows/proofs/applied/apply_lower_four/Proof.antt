@@ -43,7 +43,8 @@ returns c =
     let a = c .before .before .before in
     let d = a .before .before .before in
     let s = d .before in
-    run-row (s .pre .0) (sym (s .pre .2)) (sign d) (a .lower-sums .ensures) (s .args .rule) (run-all _ 4 (s .pre .2) (c .apply-lower .ensures))
+    run-row (s .pre .0) (sym (s .pre .2)) (sign d) (a .lower-sums .ensures) (s .args .rule)
+    (run-all _ 4 (s .pre .2) (c .apply-lower .ensures))
 
 pub apply-lower-four-spec : {M : Type 1} → statement M
 apply-lower-four-spec = tie.close (tie.spec sign-at-requires lower-sums-requires mul-apply-lower apply-lower-requires returns)

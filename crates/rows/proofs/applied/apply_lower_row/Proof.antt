@@ -30,7 +30,9 @@ lower-sums-requires c κs =
     (asks-sums (s .pre .0) refl, s .pre .0 .alike ∙ s .pre .1)
 
 mul-apply-lower-elements : tie.Need-mul-apply-lower-elements
-mul-apply-lower-elements c = let s = c .before .before .before .before .before .before in omega (arith, asks-room (s .pre .0) refl)
+mul-apply-lower-elements c =
+    let s = c .before .before .before .before .before .before in
+    omega (arith, asks-room (s .pre .0) refl)
 
 apply-lower-elements-requires : tie.Need-apply-lower-elements-requires
 apply-lower-elements-requires c κs =
@@ -49,4 +51,5 @@ returns-2 c =
 pub apply-lower-row-spec : {M : Type 1} → statement M
 apply-lower-row-spec =
     tie.close
-    (tie.spec apply-lower-four-requires returns sign-at-requires lower-sums-requires mul-apply-lower-elements apply-lower-elements-requires returns-2)
+    (tie.spec apply-lower-four-requires returns sign-at-requires lower-sums-requires mul-apply-lower-elements
+    apply-lower-elements-requires returns-2)

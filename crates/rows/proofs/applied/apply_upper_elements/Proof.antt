@@ -49,7 +49,8 @@ returns-3 c =
     let t = r .before .before in
     let s = t .before .before in
     let first = rw (toZ-ofZ (s .fits .d), not-false (r .apply-upper2 .result .ok) (e .if3 .left)) at (r .apply-upper2 .ensures) in
-    run-both _ 8 16 (t .if2 .taken) (omega arith) (run-all _ 8 refl first) (rw (toZ-ofZ (s .fits .d)) at (c .apply-upper3 .ensures))
+    run-both _ 8 16 (t .if2 .taken) (omega arith) (run-all _ 8 refl first)
+    (rw (toZ-ofZ (s .fits .d)) at (c .apply-upper3 .ensures))
 
 apply-upper-requires-4 : tie.Need-apply-upper-requires-4
 apply-upper-requires-4 c κs = search needs
@@ -62,4 +63,5 @@ returns-4 c =
 pub apply-upper-elements-spec : {M : Type 1} → statement M
 apply-upper-elements-spec =
     tie.close
-    (tie.spec apply-upper-requires returns apply-upper-requires-2 returns-2 apply-upper-requires-3 returns-3 apply-upper-requires-4 returns-4)
+    (tie.spec apply-upper-requires returns apply-upper-requires-2 returns-2 apply-upper-requires-3 returns-3
+    apply-upper-requires-4 returns-4)

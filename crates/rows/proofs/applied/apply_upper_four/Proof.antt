@@ -44,7 +44,8 @@ returns c =
     let a = c .before .before .before in
     let d = a .before .before .before in
     let s = d .before in
-    run-row (s .pre .0) (sym (s .pre .2)) (sign d) (a .upper-sums .ensures) (s .args .rule) (run-all _ 4 (s .pre .2) (c .apply-upper .ensures))
+    run-row (s .pre .0) (sym (s .pre .2)) (sign d) (a .upper-sums .ensures) (s .args .rule)
+    (run-all _ 4 (s .pre .2) (c .apply-upper .ensures))
 
 pub apply-upper-four-spec : {M : Type 1} → statement M
 apply-upper-four-spec = tie.close (tie.spec sign-at-requires upper-sums-requires mul-apply-upper apply-upper-requires returns)

@@ -30,7 +30,9 @@ upper-sums-requires c κs =
     (asks-sums (s .pre .0) refl, s .pre .0 .alike ∙ s .pre .1)
 
 mul-apply-upper-elements : tie.Need-mul-apply-upper-elements
-mul-apply-upper-elements c = let s = c .before .before .before .before .before .before in omega (arith, asks-room (s .pre .0) refl)
+mul-apply-upper-elements c =
+    let s = c .before .before .before .before .before .before in
+    omega (arith, asks-room (s .pre .0) refl)
 
 apply-upper-elements-requires : tie.Need-apply-upper-elements-requires
 apply-upper-elements-requires c κs =
@@ -49,4 +51,5 @@ returns-2 c =
 pub apply-upper-row-spec : {M : Type 1} → statement M
 apply-upper-row-spec =
     tie.close
-    (tie.spec apply-upper-four-requires returns sign-at-requires upper-sums-requires mul-apply-upper-elements apply-upper-elements-requires returns-2)
+    (tie.spec apply-upper-four-requires returns sign-at-requires upper-sums-requires mul-apply-upper-elements
+    apply-upper-elements-requires returns-2)

@@ -57,4 +57,5 @@ returns c =
 pub upper-rest-sums-spec : {M : Type 1} → statement M
 upper-rest-sums-spec =
     tie.close
-    (tie.spec before-upper-requires add-side-sums sub-side-sums sub-side-sums-2 add-side-sums-2 mul-side-sums side-sums-requires returns)
+    (tie.spec before-upper-requires add-side-sums sub-side-sums sub-side-sums-2 add-side-sums-2
+    mul-side-sums side-sums-requires returns)

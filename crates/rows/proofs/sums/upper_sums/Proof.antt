@@ -93,5 +93,5 @@ returns c =
 pub upper-sums-spec : {M : Type 1} → statement M
 upper-sums-spec =
     tie.close
-    (tie.spec before-upper-requires add-side-sums-with sub-side-sums-with sub-side-sums-with-2 add-side-sums-with-2 mul-side-sums-with sign-at-requires
-    diagonal-of-requires mul-side-sums-with-2 side-sums-with-requires returns)
+    (tie.spec before-upper-requires add-side-sums-with sub-side-sums-with sub-side-sums-with-2 add-side-sums-with-2
+    mul-side-sums-with sign-at-requires diagonal-of-requires mul-side-sums-with-2 side-sums-with-requires returns)

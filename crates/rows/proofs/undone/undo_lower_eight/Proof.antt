@@ -27,8 +27,8 @@ returns c =
     let r = c .before .before in
     let a = r .before .before .before in
     let s = a .before .before .before in
-    undone-stops 0 4 (undone-none (undo-start (s .pre .0) (sym (s .pre .2)) (a .lower-rest-sums .ensures))) (r .undo-lower .ensures) (omega arith)
-    (not-true _ (c .if1 .taken)) (omega (arith, s .pre .2))
+    let none = undone-none (undo-start (s .pre .0) (sym (s .pre .2)) (a .lower-rest-sums .ensures)) in
+    undone-stops 0 4 none (r .undo-lower .ensures) (omega arith) (not-true _ (c .if1 .taken)) (omega (arith, s .pre .2))
 
 undo-lower-requires-2 : tie.Need-undo-lower-requires-2
 undo-lower-requires-2 c κs =
@@ -50,7 +50,8 @@ returns-2 c =
     let a = r .before .before .before in
     let s = a .before .before .before in
     let none = undone-none (undo-start (s .pre .0) (sym (s .pre .2)) (a .lower-rest-sums .ensures)) in
-    undone-all 4 8 (undone-more 0 4 none (r .undo-lower .ensures) (omega arith) (not-false _ (e .if1 .left))) (c .undo-lower2 .ensures) (omega arith) (s .pre .2)
+    let four = undone-more 0 4 none (r .undo-lower .ensures) (omega arith) (not-false _ (e .if1 .left)) in
+    undone-all 4 8 four (c .undo-lower2 .ensures) (omega arith) (s .pre .2)
 
 pub undo-lower-eight-spec : {M : Type 1} → statement M
 undo-lower-eight-spec = tie.close (tie.spec lower-rest-sums-requires undo-lower-requires returns undo-lower-requires-2 returns-2)

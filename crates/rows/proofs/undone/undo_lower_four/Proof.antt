@@ -25,7 +25,8 @@ returns : tie.Need-returns
 returns c =
     let a = c .before .before .before in
     let s = a .before .before .before in
-    undone-all 0 4 (undone-none (undo-start (s .pre .0) (sym (s .pre .2)) (a .lower-rest-sums .ensures))) (c .undo-lower .ensures) (omega arith) (s .pre .2)
+    let none = undone-none (undo-start (s .pre .0) (sym (s .pre .2)) (a .lower-rest-sums .ensures)) in
+    undone-all 0 4 none (c .undo-lower .ensures) (omega arith) (s .pre .2)
 
 pub undo-lower-four-spec : {M : Type 1} → statement M
 undo-lower-four-spec = tie.close (tie.spec lower-rest-sums-requires undo-lower-requires returns)

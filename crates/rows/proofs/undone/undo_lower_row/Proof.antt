@@ -35,4 +35,5 @@ returns-3 c = search needs
 pub undo-lower-row-spec : {M : Type 1} → statement M
 undo-lower-row-spec =
     tie.close
-    (tie.spec undo-lower-four-requires returns undo-lower-eight-requires returns-2 lower-rest-sums-requires undo-lower-elements-requires returns-3)
+    (tie.spec undo-lower-four-requires returns undo-lower-eight-requires returns-2 lower-rest-sums-requires
+    undo-lower-elements-requires returns-3)

@@ -28,8 +28,8 @@ returns c =
     let r = c .before .before in
     let a = r .before .before .before in
     let s = a .before .before .before in
-    undone-stops 0 4 (undone-none (undo-start (s .pre .0) (sym (s .pre .2)) (a .upper-rest-sums .ensures))) (r .undo-upper .ensures) (omega arith)
-    (not-true _ (c .if1 .taken)) (omega (arith, s .pre .2))
+    let none = undone-none (undo-start (s .pre .0) (sym (s .pre .2)) (a .upper-rest-sums .ensures)) in
+    undone-stops 0 4 none (r .undo-upper .ensures) (omega arith) (not-true _ (c .if1 .taken)) (omega (arith, s .pre .2))
 
 undo-upper-requires-2 : tie.Need-undo-upper-requires-2
 undo-upper-requires-2 c κs =
@@ -52,7 +52,8 @@ returns-2 c =
     let a = r .before .before .before in
     let s = a .before .before .before in
     let none = undone-none (undo-start (s .pre .0) (sym (s .pre .2)) (a .upper-rest-sums .ensures)) in
-    undone-all 4 8 (undone-more 0 4 none (r .undo-upper .ensures) (omega arith) (not-false _ (e .if1 .left))) (c .undo-upper2 .ensures) (omega arith) (s .pre .2)
+    let four = undone-more 0 4 none (r .undo-upper .ensures) (omega arith) (not-false _ (e .if1 .left)) in
+    undone-all 4 8 four (c .undo-upper2 .ensures) (omega arith) (s .pre .2)
 
 pub undo-upper-eight-spec : {M : Type 1} → statement M
 undo-upper-eight-spec = tie.close (tie.spec upper-rest-sums-requires undo-upper-requires returns undo-upper-requires-2 returns-2)

@@ -26,7 +26,8 @@ returns : tie.Need-returns
 returns c =
     let a = c .before .before .before in
     let s = a .before .before .before in
-    undone-all 0 4 (undone-none (undo-start (s .pre .0) (sym (s .pre .2)) (a .upper-rest-sums .ensures))) (c .undo-upper .ensures) (omega arith) (s .pre .2)
+    let none = undone-none (undo-start (s .pre .0) (sym (s .pre .2)) (a .upper-rest-sums .ensures)) in
+    undone-all 0 4 none (c .undo-upper .ensures) (omega arith) (s .pre .2)
 
 pub undo-upper-four-spec : {M : Type 1} → statement M
 undo-upper-four-spec = tie.close (tie.spec upper-rest-sums-requires undo-upper-requires returns)

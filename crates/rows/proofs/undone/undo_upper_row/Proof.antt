@@ -35,4 +35,5 @@ returns-3 c = search needs
 pub undo-upper-row-spec : {M : Type 1} → statement M
 undo-upper-row-spec =
     tie.close
-    (tie.spec undo-upper-four-requires returns undo-upper-eight-requires returns-2 upper-rest-sums-requires undo-upper-elements-requires returns-3)
+    (tie.spec undo-upper-four-requires returns undo-upper-eight-requires returns-2 upper-rest-sums-requires
+    undo-upper-elements-requires returns-3)
