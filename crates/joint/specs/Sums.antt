@@ -358,7 +358,8 @@ side-four {k} t c some l few small long = side-adding t (k + c) 4 some (omega ar
 pub own-small : {x : List ℤ} {d : ℤ} (w o : ℕ) → w ≤ 16 → Bounded mostAllowance x → Within mostEntry d →
     Bounded (1 * product) (added w (λ c. d *ℤ at x (o + c)) (replicate 16 (pos 0)))
 own-small w o l q h =
-    bounded-le (omega arith) (added-small w _ (replicate 16 (pos 0)) 0 1 l (nothing 16) (λ c b. within-le (omega arith) (within-* h (q .small _))))
+    bounded-le (omega arith)
+    (added-small w _ (replicate 16 (pos 0)) 0 1 l (nothing 16) (λ c b. within-le (omega arith) (within-* h (q .small _))))
 
 pub four-rows : (a : List ℤ) (p m : ℕ) (x : List ℤ) (k n c d : ℕ) → rowsSum a p m x (k + c) n d ≡ rowsSum a p m x k n (c + d)
 unfolding rowsSum

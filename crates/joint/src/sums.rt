@@ -1,6 +1,7 @@
 // The sum of a joint stage in two steps, in 64 bits: the sums V over the columns for a row of the block, and a sum over V.
 ghost use mathlib.Core.Path.{_≡_};
-ghost use Prim.Native.Nat.{_+_, _*_, _≤_};
+ghost use Prim.Native.Nat.{_+_, _*_, _%_, _≤_};
+ghost use mathlib.Core.Bool.{true};
 ghost use lib.IntN.{pos, _+ℤ_, _-ℤ_, _*ℤ_};
 ghost use lib.ListN.{replicate};
 ghost use mir.Syntax.{w64};
@@ -77,8 +78,38 @@ fn put_four(t: &[i64; 16], v: &mut [i64; 16], c: usize)
     v[c + 3] = t[3];
 }
 
+// Whether the sums of n columns are made four columns at a time: beyond `most` columns, and where n is a multiple of four.
+fn is_by_fours(n: usize, most: usize) -> bool
+    ensures { λ r. ⌜ (r ≡ true → n % 4 ≡ 0) ⌝ }
+{
+    if n <= most {
+        return false;
+    }
+    n % 4 == 0
+}
+
 // m entries on one side of the diagonal, each times a row of the block, the first of which starts at place k. Four columns at a
 // time: four sums fit into registers, where the compiler leaves out the rest of t.
+fn sums_by_fours(
+    a: &[i32],
+    p: usize,
+    m: usize,
+    x: &[i32; 256],
+    k: usize,
+    n: usize,
+    v: &mut [i64; 16],
+)
+    requires { ⌜ Side (now a) p m (now x) k n × (now v ≡ replicate 16 (pos 0)) × (n % 4 ≡ 0) ⌝ }
+    ensures { λ _. ⌜ now (v .exit) ≡ added n (rowsSum (now (a .entry)) p m (now (x .entry)) k n) (replicate 16 (pos 0)) ⌝ }
+{
+    for g in 0..n / 4 {
+        let mut t = [0i64; 16];
+        add_rows(a, p, m, x, k + 4 * g, n, 4, &mut t);
+        put_four(&t, v, 4 * g);
+    }
+}
+
+// The same for any n. Small, so that the compiler puts it in where n is a literal: then up to eight sums stay in registers.
 pub fn side_sums(
     a: &[i32],
     p: usize,
@@ -91,18 +122,39 @@ pub fn side_sums(
     requires { ⌜ Side (now a) p m (now x) k n × (now v ≡ replicate 16 (pos 0)) ⌝ }
     ensures { λ _. ⌜ now (v .exit) ≡ added n (rowsSum (now (a .entry)) p m (now (x .entry)) k n) (replicate 16 (pos 0)) ⌝ }
 {
-    if n % 4 != 0 {
-        add_rows(a, p, m, x, k, n, n, v);
+    if is_by_fours(n, 8) {
+        sums_by_fours(a, p, m, x, k, n, v);
         return;
     }
+    add_rows(a, p, m, x, k, n, n, v);
+}
+
+// The sums by fours and the row's own numbers, from place o on, each times the diagonal's weight.
+fn sums_by_fours_with(
+    a: &[i32],
+    p: usize,
+    m: usize,
+    x: &[i32; 256],
+    k: usize,
+    n: usize,
+    diagonal: i32,
+    o: usize,
+    v: &mut [i64; 16],
+)
+    requires { ⌜ Side (now a) p m (now x) k n × (now v ≡ replicate 16 (pos 0)) × (m ≤ 15) × (o + n ≤ 256)
+        × Within mostEntry diagonal × (n % 4 ≡ 0) ⌝ }
+    ensures { λ _. ⌜ now (v .exit) ≡ added n (sideWith (now (a .entry)) p m (now (x .entry)) k n diagonal o)
+        (replicate 16 (pos 0)) ⌝ }
+{
     for g in 0..n / 4 {
         let mut t = [0i64; 16];
+        add_row(diagonal, x, o + 4 * g, 4, &mut t);
         add_rows(a, p, m, x, k + 4 * g, n, 4, &mut t);
         put_four(&t, v, 4 * g);
     }
 }
 
-// The same and the row's own numbers, from place o on, each times the diagonal's weight.
+// The same for any n; small as well.
 pub fn side_sums_with(
     a: &[i32],
     p: usize,
@@ -119,17 +171,12 @@ pub fn side_sums_with(
     ensures { λ _. ⌜ now (v .exit) ≡ added n (sideWith (now (a .entry)) p m (now (x .entry)) k n diagonal o)
         (replicate 16 (pos 0)) ⌝ }
 {
-    if n % 4 != 0 {
-        add_row(diagonal, x, o, n, v);
-        add_rows(a, p, m, x, k, n, n, v);
+    if is_by_fours(n, 4) {
+        sums_by_fours_with(a, p, m, x, k, n, diagonal, o, v);
         return;
     }
-    for g in 0..n / 4 {
-        let mut t = [0i64; 16];
-        add_row(diagonal, x, o + 4 * g, 4, &mut t);
-        add_rows(a, p, m, x, k + 4 * g, n, 4, &mut t);
-        put_four(&t, v, 4 * g);
-    }
+    add_row(diagonal, x, o, n, v);
+    add_rows(a, p, m, x, k, n, n, v);
 }
 
 // Row m of a matrix, its diagonal left out, times each of the n columns of the block, into v.

@@ -33,30 +33,7 @@ pub fn nth_row(task: Task, fa: Layout, s: usize) -> usize
     nth_undone(fa, n - 1 - s)
 }
 
-// All rows applied, by their kind, where rows have n numbers. A permutation never comes here.
-fn apply_kind(
-    rule: Rule,
-    col: &[i32],
-    fa: Layout,
-    row: &[i32],
-    fb: Layout,
-    n: usize,
-    x: &mut [i32; 256],
-) -> Outcome
-    requires { ⌜ Weighable Task.Forward (now col) fa (now row) fb (now x) × (n ≡ fb .order) ⌝ }
-    ensures { λ r. ⌜ Weighed Task.Forward rule (now (col .entry)) fa (now (row .entry)) fb (now (x .entry))
-        (r .ok) (now (x .exit)) ⌝ }
-{
-    let kind = fb.kind;
-    match kind {
-        Kind::Lower => return apply_lower_rows(rule, col, fa, row, fb, n, x),
-        Kind::Upper => return apply_upper_rows(rule, col, fa, row, fb, n, x),
-        Kind::Single => return apply_single_rows(rule, col, fa, row, fb, x),
-        Kind::Permutation => return Outcome { ok: true, stage: 0 }
-    }
-}
-
-// The same; where rows have 4, 8 or 16 numbers the compiler is told so, and writes their sums out.
+// All rows applied, by their kind. A permutation never comes here.
 fn apply_rows(
     rule: Rule,
     col: &[i32],
@@ -69,43 +46,16 @@ fn apply_rows(
     ensures { λ r. ⌜ Weighed Task.Forward rule (now (col .entry)) fa (now (row .entry)) fb (now (x .entry))
         (r .ok) (now (x .exit)) ⌝ }
 {
-    let n = fb.order;
-    if n == 4 {
-        return apply_kind(rule, col, fa, row, fb, 4, x);
-    }
-    if n == 8 {
-        return apply_kind(rule, col, fa, row, fb, 8, x);
-    }
-    if n == 16 {
-        return apply_kind(rule, col, fa, row, fb, 16, x);
-    }
-    apply_kind(rule, col, fa, row, fb, n, x)
-}
-
-// All rows undone, by their kind, where rows have n numbers. A permutation never comes here.
-fn undo_kind(
-    rule: Rule,
-    col: &[i32],
-    fa: Layout,
-    row: &[i32],
-    fb: Layout,
-    n: usize,
-    x: &mut [i32; 256],
-) -> Outcome
-    requires { ⌜ Weighable Task.Inverse (now col) fa (now row) fb (now x) × (n ≡ fb .order) ⌝ }
-    ensures { λ r. ⌜ Weighed Task.Inverse rule (now (col .entry)) fa (now (row .entry)) fb (now (x .entry))
-        (r .ok) (now (x .exit)) ⌝ }
-{
     let kind = fb.kind;
     match kind {
-        Kind::Lower => return undo_lower_rows(rule, col, fa, row, fb, n, x),
-        Kind::Upper => return undo_upper_rows(rule, col, fa, row, fb, n, x),
-        Kind::Single => return undo_single_rows(rule, col, fa, row, fb, x),
+        Kind::Lower => return apply_lower_rows(rule, col, fa, row, fb, x),
+        Kind::Upper => return apply_upper_rows(rule, col, fa, row, fb, x),
+        Kind::Single => return apply_single_rows(rule, col, fa, row, fb, x),
         Kind::Permutation => return Outcome { ok: true, stage: 0 }
     }
 }
 
-// The same; where rows have 4, 8 or 16 numbers the compiler is told so, and writes their sums out.
+// All rows undone, by their kind. A permutation never comes here.
 fn undo_rows(
     rule: Rule,
     col: &[i32],
@@ -118,17 +68,13 @@ fn undo_rows(
     ensures { λ r. ⌜ Weighed Task.Inverse rule (now (col .entry)) fa (now (row .entry)) fb (now (x .entry))
         (r .ok) (now (x .exit)) ⌝ }
 {
-    let n = fb.order;
-    if n == 4 {
-        return undo_kind(rule, col, fa, row, fb, 4, x);
+    let kind = fb.kind;
+    match kind {
+        Kind::Lower => return undo_lower_rows(rule, col, fa, row, fb, x),
+        Kind::Upper => return undo_upper_rows(rule, col, fa, row, fb, x),
+        Kind::Single => return undo_single_rows(rule, col, fa, row, fb, x),
+        Kind::Permutation => return Outcome { ok: true, stage: 0 }
     }
-    if n == 8 {
-        return undo_kind(rule, col, fa, row, fb, 8, x);
-    }
-    if n == 16 {
-        return undo_kind(rule, col, fa, row, fb, 16, x);
-    }
-    undo_kind(rule, col, fa, row, fb, n, x)
 }
 
 // The allowances of all rows.

@@ -11,23 +11,22 @@ use rows::undone::undo_lower_row;
 use rows::undone::undo_upper_row;
 use rules::Rule;
 
-// All rows of n numbers under a lower factor, applied: a row looks at those above it, so the lowest comes first.
+// All rows under a lower factor, applied: a row looks at those above it, so the lowest comes first.
 pub fn apply_lower_rows(
     rule: Rule,
     col: &[i32],
     fa: Layout,
     row: &[i32],
     fb: Layout,
-    n: usize,
     x: &mut [i32; 256],
 ) -> Outcome
-    requires { ⌜ Weighable Task.Forward (now col) fa (now row) fb (now x) × (fb .kind ≡ Lower) × (n ≡ fb .order) ⌝ }
+    requires { ⌜ Weighable Task.Forward (now col) fa (now row) fb (now x) × (fb .kind ≡ Lower) ⌝ }
     ensures { λ r. ⌜ Weighed Task.Forward rule (now (col .entry)) fa (now (row .entry)) fb (now (x .entry))
         (r .ok) (now (x .exit)) ⌝ }
 {
     let m = fa.order;
     for s in 0..m {
-        let r = apply_lower_row(rule, col, fa, row, fb, n, m - 1 - s, x);
+        let r = apply_lower_row(rule, col, fa, row, fb, m - 1 - s, x);
         if !r.ok {
             return r;
         }
@@ -42,16 +41,15 @@ pub fn apply_upper_rows(
     fa: Layout,
     row: &[i32],
     fb: Layout,
-    n: usize,
     x: &mut [i32; 256],
 ) -> Outcome
-    requires { ⌜ Weighable Task.Forward (now col) fa (now row) fb (now x) × (fb .kind ≡ Upper) × (n ≡ fb .order) ⌝ }
+    requires { ⌜ Weighable Task.Forward (now col) fa (now row) fb (now x) × (fb .kind ≡ Upper) ⌝ }
     ensures { λ r. ⌜ Weighed Task.Forward rule (now (col .entry)) fa (now (row .entry)) fb (now (x .entry))
         (r .ok) (now (x .exit)) ⌝ }
 {
     let m = fa.order;
     for s in 0..m {
-        let r = apply_upper_row(rule, col, fa, row, fb, n, s, x);
+        let r = apply_upper_row(rule, col, fa, row, fb, s, x);
         if !r.ok {
             return r;
         }
@@ -59,23 +57,22 @@ pub fn apply_upper_rows(
     Outcome { ok: true, stage: 0 }
 }
 
-// All rows of n numbers under a lower factor, undone: the highest first, since the others look at it as it was.
+// All rows under a lower factor, undone: the highest first, since the others look at it as it was.
 pub fn undo_lower_rows(
     rule: Rule,
     col: &[i32],
     fa: Layout,
     row: &[i32],
     fb: Layout,
-    n: usize,
     x: &mut [i32; 256],
 ) -> Outcome
-    requires { ⌜ Weighable Task.Inverse (now col) fa (now row) fb (now x) × (fb .kind ≡ Lower) × (n ≡ fb .order) ⌝ }
+    requires { ⌜ Weighable Task.Inverse (now col) fa (now row) fb (now x) × (fb .kind ≡ Lower) ⌝ }
     ensures { λ r. ⌜ Weighed Task.Inverse rule (now (col .entry)) fa (now (row .entry)) fb (now (x .entry))
         (r .ok) (now (x .exit)) ⌝ }
 {
     let m = fa.order;
     for s in 0..m {
-        let r = undo_lower_row(rule, col, fa, row, fb, n, s, x);
+        let r = undo_lower_row(rule, col, fa, row, fb, s, x);
         if !r.ok {
             return r;
         }
@@ -90,16 +87,15 @@ pub fn undo_upper_rows(
     fa: Layout,
     row: &[i32],
     fb: Layout,
-    n: usize,
     x: &mut [i32; 256],
 ) -> Outcome
-    requires { ⌜ Weighable Task.Inverse (now col) fa (now row) fb (now x) × (fb .kind ≡ Upper) × (n ≡ fb .order) ⌝ }
+    requires { ⌜ Weighable Task.Inverse (now col) fa (now row) fb (now x) × (fb .kind ≡ Upper) ⌝ }
     ensures { λ r. ⌜ Weighed Task.Inverse rule (now (col .entry)) fa (now (row .entry)) fb (now (x .entry))
         (r .ok) (now (x .exit)) ⌝ }
 {
     let m = fa.order;
     for s in 0..m {
-        let r = undo_upper_row(rule, col, fa, row, fb, n, m - 1 - s, x);
+        let r = undo_upper_row(rule, col, fa, row, fb, m - 1 - s, x);
         if !r.ok {
             return r;
         }

@@ -265,9 +265,12 @@ element-same Allowance rule c fa r fb {x} {y} i u l g v =
     ∙ rw (columns-same (rowMagnitudes c (rowOf fa i)) (pos unit) beside, h .diagonal u l)
     (sym (allowed-here rule c fa r fb y i u l))
 
--- a place of a block of at most 16 by 16
+-- a row of a block of at most 16 by 16, and a place of it
+pub row-room : {a b i : ℕ} → a ≤ 16 → b ≤ 16 → i < a → i * b + b ≤ 256
+row-room {a} {b} {i} p q l = let h : suc i ≤ 16 = omega arith in omega (arith, NatL.mul-le-mul-right b h)
+
 pub in-block : {a b i : ℕ} (j : ℕ) → a ≤ 16 → b ≤ 16 → i < a → j < b → i * b + j < 256
-in-block {a} {b} {i} j p q l k = let h : suc i ≤ 16 = omega arith in omega (arith, NatL.mul-le-mul-right b h)
+in-block {b} {i} j p q l k = let h = row-room {b = b} {i = i} p q l in omega arith
 
 -- ---- a row stuck stops the stage: the number beyond the bound is found in what all turns would give
 module _ {N : ℕ} {p : ℕ → ℕ} (h : Permutes N p) (most : ℕ) (step : List ℤ → ℕ → ℤ) (x : List ℤ) (room : N ≤ length x) where

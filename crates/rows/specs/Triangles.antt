@@ -1,6 +1,5 @@
 -- ROWS UNDER A LOWER OR AN UPPER FACTOR, as the code goes through them: a run of elements at a time, each from the sums of its
--- row
--- and from its own number.
+-- row and from its own number.
 use mathlib.Core.Bool.{Bool}
 use mathlib.Core.List.{List}
 use mathlib.Core.Path.{_≡_, refl, sym, ap, _∙_}
@@ -25,7 +24,8 @@ use Rattle.factor.specs.InPlace.{in-place-other}
 use Rattle.joint.specs.Sums.{across, entriesSum, jointSum, mostColumn, added, rowsSum, sideWith, Side}
 use Rattle.joint.specs.Sums.{above-side, below-side, rest-left, rest-right, rest-with}
 use Rattle.joint.specs.Elements.{signAt, diagonalOf, sumsAt, restSumsAt, roundedSum, appliedFrom, appliedAt, appliedOf}
-use Rattle.rows.specs.RowsInPlace.{RowDone, plain, inRow, row-done-along, applied-here}
+use Rattle.joint.specs.Elements.{RowGiven, sums-small}
+use Rattle.rows.specs.RowsInPlace.{RowAsks, RowDone, plain, inRow, row-done-along, applied-here, row-room}
 
 -- ---- definitions
 -- what the sum of element j asks
@@ -147,3 +147,31 @@ applied-row rule c fa r fb i x h =
     (in-place-other _ _ u x (i * fb .order + u) (λ t b z. omega arith))
     ∙ sym (applied-here rule c fa r fb x i u l))
     h
+
+-- ---- a row, where the code has its order as n
+module _ {c r x : List ℤ} {fa fb : Layout} {i n : ℕ} (h : RowAsks c fa r fb i x) (e : n ≡ fb .order) where
+  -- it lies in the block
+  pub asks-room : i * n + n ≤ 256
+  asks-room = rw e (row-room (h .column .order) (h .row .order) (h .below))
+
+  -- its sums start from nothing
+  pub asks-sums : RowGiven c fa i x n (replicate 16 (pos 0))
+  asks-sums = (h .column, h .below, rw e (h .row .order), h .small, refl)
+
+  -- then come its elements, and they are the row
+  module _ {d : ℤ} {v : List ℤ} (g : d ≡ signAt c fa i) (z : v ≡ sumsAt c fa i x n) where
+    pub asks-run : RunGiven r fb d v (i * n) x
+    asks-run =
+        rw (g, z) (
+          h .row,
+          h .column .sign i (h .below),
+          sums-small (h .column) i (h .below) n (h .small),
+          omega (arith, asks-room, e),
+          h .small,
+          (let l = h .low in omega arith),
+        )
+
+    pub run-row : (rule : Rule) {y : List ℤ} {most : ℕ} {ok : Bool} →
+        RowDone most (appliedIn rule r fb d v (i * n)) (λ u. i * n + u) (fb .order) x y ok →
+        RowDone most (plain (appliedOf rule c fa r fb x)) (inRow (fb .order) i) (fb .order) x y ok
+    run-row rule w = applied-row rule c fa r fb i x (rw (g, z, e) at w)

@@ -1,5 +1,5 @@
 -- ROWS UNDER A LOWER OR AN UPPER FACTOR THAT ARE UNDONE: the sums with what is recovered, and the latest of them.
-use mathlib.Core.Bool.{Bool, true}
+use mathlib.Core.Bool.{Bool, true, false}
 use mathlib.Core.List.{List}
 use mathlib.Core.Logic.{_≢_}
 use mathlib.Core.Path.{_≡_, refl, sym, ap, _∙_}
@@ -9,6 +9,7 @@ use native.Mathlib.Omega.{arith}
 use lib.IntN.{ℤ, pos, _+ℤ_}
 use lib.ListN.{length}
 use Rattle.whole.specs.Sum.{sum, sum-first}
+use Rattle.laws.specs.Tests.{apart}
 use Rattle.rules.specs.declared.Rule.{Rule}
 use Rattle.rules.specs.declared.Kind.the-variants.{Lower, Upper}
 use Rattle.rules.specs.Factors.{above}
@@ -18,9 +19,10 @@ use Rattle.factor.specs.declared.Layout.{Layout}
 use Rattle.factor.specs.SumBounds.{Bounded, bounded-le}
 use Rattle.factor.specs.LayoutInSheet.{InSheet, row-wide}
 use Rattle.factor.specs.UndoingOrder.{nthUndone}
+use Rattle.factor.specs.InPlace.{inPlace}
 use Rattle.joint.specs.Sums.{Wide, mostColumn, restSums, rest-sums-small}
-use Rattle.joint.specs.Elements.{signAt, restSumsAt, undoneFrom, roundedRest, undoneRest}
-use Rattle.rows.specs.RowsInPlace.{RowDone, inRow}
+use Rattle.joint.specs.Elements.{signAt, restSumsAt, undoneFrom, roundedRest, undoneRest, undoneOf}
+use Rattle.rows.specs.RowsInPlace.{RowAsks, RowDone, inRow, onward, run-both, run-short}
 use Rattle.rows.specs.Triangles.{totalOf}
 use Rattle.rows.specs.RecoveredSums.{RecoveredSums, recovered-sums-start}
 
@@ -53,6 +55,18 @@ pub record UndoGiven (c : List ℤ) (fa : Layout) (r : List ℤ) (fb : Layout) (
 -- the place of the element in turn u
 abbrev pub undoneTurn : Layout → ℕ → ℕ → ℕ
 undoneTurn fb i u = inRow (fb .order) i (nthUndone (fb .kind) (fb .order) (fb .row) u)
+
+-- what a run of turns from a to b makes
+abbrev pub RunUndone : Rule → List ℤ → Layout → List ℤ → Layout → ℕ → ℕ → ℕ → List ℤ → List ℤ → List ℤ → Bool → Type 0
+RunUndone rule c fa r fb i a b x y v ok =
+    RowDone bound (undoneOf rule c fa r fb) (onward (undoneTurn fb i) a) (b - a) x y ok
+    × (ok ≡ true → Recovered c fa i fb b y v)
+
+-- t turns of row i are done, x the block before it, y and v as they are now
+pub record UndoneTo (rule : Rule) (c : List ℤ) (fa : Layout) (r : List ℤ) (fb : Layout) (i : ℕ) (x : List ℤ) (t : ℕ)
+    (y v : List ℤ) : Type 0 where
+  pub done : RowDone bound (undoneOf rule c fa r fb) (undoneTurn fb i) t x y true
+  pub given : UndoGiven c fa r fb i t y v
 
 -- ---- laws
 pub recent-none : (v : List ℤ) (q : ℕ → ℕ) {t : ℕ} → t ≡ 0 → recentOf v q t ≡ pos 0
@@ -123,36 +137,63 @@ above-step n t l =
     let f : n - suc (n - 1 - t) ≡ t = omega arith in
     rw (e, f)
 
--- what the next run asks, after one that every number passed
-pub undo-given : {c r x v y w : List ℤ} {fa fb : Layout} {i a b m : ℕ} {step : List ℤ → ℕ → ℤ} {q : ℕ → ℕ} {ok : Bool} →
-    UndoGiven c fa r fb i a x v → RowDone bound step q m x y ok → ok ≡ true → Recovered c fa i fb b y w →
-    UndoGiven c fa r fb i b y w
-undo-given g h t k = record {
-  column = g .column;
-  row = g .row;
-  below = g .below;
-  low = g .low;
-  small = h .through t .1;
-  long = h .keeps ∙ g .long;
-  recovered = k;
-}
-
--- before the first turn
-pub undo-start :
-    (c : List ℤ) (fa : Layout) (r : List ℤ) (fb : Layout) (i : ℕ) (x : List ℤ) {v : List ℤ} → InSheet c fa → InSheet r fb →
-    i < fa .order → fb .row < fb .order → Bounded bound x → length x ≡ 256 → v ≡ restSumsAt c fa i x (fb .order) →
-    UndoGiven c fa r fb i 0 x v
+-- ---- runs of turns, one after another
+-- before the first, where the code has the order of the row as n
+pub undo-start : {c r x v : List ℤ} {fa fb : Layout} {i n : ℕ} → RowAsks c fa r fb i x → n ≡ fb .order →
+    v ≡ restSumsAt c fa i x n → UndoGiven c fa r fb i 0 x v
 unfolding restSums
-undo-start c fa r fb i x a b l o h n e = record {
-  column = a;
-  row = b;
-  below = l;
-  low = o;
-  small = h;
-  long = n;
-  recovered = record {
-    sums = recovered-sums-start c fa i fb o (b .order) x e;
-    small = rw e (rest-sums-small (fb .order) (row-wide (a .order) (a .row i l)) (bounded-le (omega arith) h));
-    long = ap length e ∙ length-fill _ _ _;
-  };
-}
+undo-start {c} {r} {x} {v} {fa} {fb} {i} h e z =
+    let z : v ≡ restSumsAt c fa i x (fb .order) = rw e at z in
+    record {
+      column = h .column;
+      row = h .row;
+      below = h .below;
+      low = h .low;
+      small = h .small;
+      long = h .long;
+      recovered = record {
+        sums = recovered-sums-start c fa i fb (h .low) (h .row .order) x z;
+        small =
+            rw z
+            (rest-sums-small (fb .order) (row-wide (h .column .order) (h .column .row i (h .below)))
+            (bounded-le (omega arith) (h .small)));
+        long = ap length z ∙ length-fill _ _ _;
+      };
+    }
+
+module _ {rule : Rule} {c r x : List ℤ} {fa fb : Layout} {i : ℕ} where
+  pub undone-none : {v : List ℤ} → UndoGiven c fa r fb i 0 x v → UndoneTo rule c fa r fb i x 0 x v
+  unfolding inPlace
+  undone-none g = record {
+    done = record { through = λ t. (refl, g .small); stopped = λ t. apart t; keeps = refl };
+    given = g;
+  }
+
+  -- after one run from turn a to turn b
+  module _ (a b : ℕ) {y z v w : List ℤ} {ok : Bool} (h : UndoneTo rule c fa r fb i x a y v)
+      (k : RunUndone rule c fa r fb i a b y z w ok) (l : a ≤ b) where
+    -- every number passed
+    pub undone-more : ok ≡ true → UndoneTo rule c fa r fb i x b z w
+    undone-more t =
+        let g = h .given in
+        record {
+          done = run-both (undoneTurn fb i) a b refl l (h .done) (rw t at (k .0));
+          given = record {
+            column = g .column;
+            row = g .row;
+            below = g .below;
+            low = g .low;
+            small = k .0 .through t .1;
+            long = k .0 .keeps ∙ g .long;
+            recovered = k .1 t;
+          };
+        }
+
+    -- one did not
+    pub undone-stops : ok ≡ false → b ≤ fb .order →
+        RowDone bound (undoneOf rule c fa r fb) (undoneTurn fb i) (fb .order) x z ok
+    undone-stops t m = run-short (undoneTurn fb i) b (fb .order) refl m t (run-both (undoneTurn fb i) a b refl l (h .done) (k .0))
+
+    -- turn b is the last
+    pub undone-all : fb .order ≡ b → RowDone bound (undoneOf rule c fa r fb) (undoneTurn fb i) (fb .order) x z ok
+    undone-all e = run-both (undoneTurn fb i) a b e l (h .done) (k .0)

@@ -9,16 +9,16 @@ ghost use Rattle.factor.specs.Layouts.{rowOf};
 ghost use Rattle.joint.specs.Elements.{appliedOf};
 ghost use Rattle.rows.specs.RowsInPlace.{RowAsks, RowDone, plain, inRow, onward};
 ghost use Rattle.rows.specs.Triangles.{TotalGiven, totalOf, RunGiven, appliedIn};
+use crate::sums::lower_sums;
+use crate::sums::upper_sums;
 use factor::Layout;
 use factor::before_lower;
 use factor::before_upper;
 use factor::rounding::is_within;
 use factor::run::Outcome;
 use joint::elements::applied_whole;
-use joint::elements::diagonal_of;
 use joint::elements::sign_at;
 use joint::elements::with_diagonal;
-use joint::sums::side_sums_with;
 use joint::sums::wide_sum;
 use rules::Block;
 use rules::Rule;
@@ -125,9 +125,6 @@ fn apply_lower_elements(
         (f .order) (now (x .entry)) (now (x .exit)) (r .ok) ⌝ }
 {
     let n = f.order;
-    if n == 4 {
-        return apply_lower(rule, row, f, d, v, k, 0, 4, x);
-    }
     if n == 8 {
         return apply_lower(rule, row, f, d, v, k, 0, 8, x);
     }
@@ -156,9 +153,6 @@ fn apply_upper_elements(
         (f .order) (now (x .entry)) (now (x .exit)) (r .ok) ⌝ }
 {
     let n = f.order;
-    if n == 4 {
-        return apply_upper(rule, row, f, 4, d, v, k, 0, 4, x);
-    }
     if n == 8 {
         return apply_upper(rule, row, f, 8, d, v, k, 0, 8, x);
     }
@@ -172,67 +166,90 @@ fn apply_upper_elements(
     apply_upper(rule, row, f, n, d, v, k, 0, n, x)
 }
 
-// Row i of rows of n under a lower factor: its sums, over the rows above it, then its elements.
+// Row i of rows of four under a lower factor. The width is a literal here, so that sums and elements stay in registers.
+fn apply_lower_four(
+    rule: Rule,
+    col: &[i32],
+    fa: Layout,
+    row: &[i32],
+    fb: Layout,
+    i: usize,
+    x: &mut [i32; 256],
+) -> Outcome
+    requires { ⌜ RowAsks (now col) fa (now row) fb i (now x) × (fb .kind ≡ Lower) × (fb .order ≡ 4) ⌝ }
+    ensures { λ r. ⌜ RowDone bound (plain (appliedOf rule (now (col .entry)) fa (now (row .entry)) fb (now (x .entry))))
+        (inRow (fb .order) i) (fb .order) (now (x .entry)) (now (x .exit)) (r .ok) ⌝ }
+{
+    let d = sign_at(col, fa, i);
+    let mut v = [0i64; 16];
+    lower_sums(col, fa, i, x, 4, &mut v);
+    apply_lower(rule, row, fb, d, &v, i * 4, 0, 4, x)
+}
+
+// Row i under a lower factor: its sums, over the rows above it, then its elements.
 pub fn apply_lower_row(
     rule: Rule,
     col: &[i32],
     fa: Layout,
     row: &[i32],
     fb: Layout,
-    n: usize,
     i: usize,
     x: &mut [i32; 256],
 ) -> Outcome
-    requires { ⌜ RowAsks (now col) fa (now row) fb i (now x) × (fb .kind ≡ Lower) × (n ≡ fb .order) ⌝ }
+    requires { ⌜ RowAsks (now col) fa (now row) fb i (now x) × (fb .kind ≡ Lower) ⌝ }
     ensures { λ r. ⌜ RowDone bound (plain (appliedOf rule (now (col .entry)) fa (now (row .entry)) fb (now (x .entry))))
         (inRow (fb .order) i) (fb .order) (now (x .entry)) (now (x .exit)) (r .ok) ⌝ }
 {
-    let entries = fa.entries;
+    let n = fb.order;
+    if n == 4 {
+        return apply_lower_four(rule, col, fa, row, fb, i, x);
+    }
     let d = sign_at(col, fa, i);
     let mut v = [0i64; 16];
-    side_sums_with(
-        col,
-        entries + before_lower(i),
-        i,
-        x,
-        0,
-        n,
-        diagonal_of(d),
-        i * n,
-        &mut v,
-    );
+    lower_sums(col, fa, i, x, n, &mut v);
     apply_lower_elements(rule, row, fb, d, &v, i * n, x)
 }
 
-// Row i of rows of n under an upper factor: its sums, over the rows below it, then its elements.
+// Row i of rows of four under an upper factor. The width is a literal here, so that sums and elements stay in registers.
+fn apply_upper_four(
+    rule: Rule,
+    col: &[i32],
+    fa: Layout,
+    row: &[i32],
+    fb: Layout,
+    i: usize,
+    x: &mut [i32; 256],
+) -> Outcome
+    requires { ⌜ RowAsks (now col) fa (now row) fb i (now x) × (fb .kind ≡ Upper) × (fb .order ≡ 4) ⌝ }
+    ensures { λ r. ⌜ RowDone bound (plain (appliedOf rule (now (col .entry)) fa (now (row .entry)) fb (now (x .entry))))
+        (inRow (fb .order) i) (fb .order) (now (x .entry)) (now (x .exit)) (r .ok) ⌝ }
+{
+    let d = sign_at(col, fa, i);
+    let mut v = [0i64; 16];
+    upper_sums(col, fa, i, x, 4, &mut v);
+    apply_upper(rule, row, fb, 4, d, &v, i * 4, 0, 4, x)
+}
+
+// Row i under an upper factor: its sums, over the rows below it, then its elements.
 pub fn apply_upper_row(
     rule: Rule,
     col: &[i32],
     fa: Layout,
     row: &[i32],
     fb: Layout,
-    n: usize,
     i: usize,
     x: &mut [i32; 256],
 ) -> Outcome
-    requires { ⌜ RowAsks (now col) fa (now row) fb i (now x) × (fb .kind ≡ Upper) × (n ≡ fb .order) ⌝ }
+    requires { ⌜ RowAsks (now col) fa (now row) fb i (now x) × (fb .kind ≡ Upper) ⌝ }
     ensures { λ r. ⌜ RowDone bound (plain (appliedOf rule (now (col .entry)) fa (now (row .entry)) fb (now (x .entry))))
         (inRow (fb .order) i) (fb .order) (now (x .entry)) (now (x .exit)) (r .ok) ⌝ }
 {
-    let entries = fa.entries;
-    let m = fa.order;
+    let n = fb.order;
+    if n == 4 {
+        return apply_upper_four(rule, col, fa, row, fb, i, x);
+    }
     let d = sign_at(col, fa, i);
     let mut v = [0i64; 16];
-    side_sums_with(
-        col,
-        entries + before_upper(m, i),
-        m - 1 - i,
-        x,
-        (i + 1) * n,
-        n,
-        diagonal_of(d),
-        i * n,
-        &mut v,
-    );
+    upper_sums(col, fa, i, x, n, &mut v);
     apply_upper_elements(rule, row, fb, d, &v, i * n, x)
 }

@@ -16,6 +16,8 @@ ghost use Rattle.joint.specs.Elements.{undoneOf};
 ghost use Rattle.rows.specs.RowsInPlace.{RowAsks, RowDone, onward};
 ghost use Rattle.rows.specs.Triangles.{TotalGiven, totalOf};
 ghost use Rattle.rows.specs.TrianglesUndone.{mostOwn, recentOf, UndoGiven, Recovered, undoneTurn};
+use crate::sums::lower_rest_sums;
+use crate::sums::upper_rest_sums;
 use factor::Layout;
 use factor::before_lower;
 use factor::before_upper;
@@ -24,7 +26,6 @@ use factor::run::Outcome;
 use joint::elements::sign_at;
 use joint::elements::undone_whole;
 use joint::elements::with_diagonal;
-use joint::sums::side_sums;
 use joint::sums::wide_sum;
 use joint::sums::with_sum;
 use rules::Block;
@@ -204,16 +205,6 @@ fn undo_lower_elements(
         (now (x .entry)) (now (x .exit)) (r .ok) ⌝ }
 {
     let n = fb.order;
-    if n == 4 {
-        return undo_lower(rule, col, fa, row, fb, i, 0, 4, v, x);
-    }
-    if n == 8 {
-        let a = undo_lower(rule, col, fa, row, fb, i, 0, 4, v, x);
-        if !a.ok {
-            return a;
-        }
-        return undo_lower(rule, col, fa, row, fb, i, 4, 8, v, x);
-    }
     if n == 16 {
         let a = undo_lower(rule, col, fa, row, fb, i, 0, 4, v, x);
         if !a.ok {
@@ -248,16 +239,6 @@ fn undo_upper_elements(
         (now (x .entry)) (now (x .exit)) (r .ok) ⌝ }
 {
     let n = fb.order;
-    if n == 4 {
-        return undo_upper(rule, col, fa, row, fb, 4, i, 0, 4, v, x);
-    }
-    if n == 8 {
-        let a = undo_upper(rule, col, fa, row, fb, 8, i, 0, 4, v, x);
-        if !a.ok {
-            return a;
-        }
-        return undo_upper(rule, col, fa, row, fb, 8, i, 4, 8, v, x);
-    }
     if n == 16 {
         let a = undo_upper(rule, col, fa, row, fb, 16, i, 0, 4, v, x);
         if !a.ok {
@@ -276,53 +257,138 @@ fn undo_upper_elements(
     undo_upper(rule, col, fa, row, fb, n, i, 0, n, v, x)
 }
 
-// Row i of rows of n under a lower factor: the sums without it, over the rows above it, then its elements.
+// Row i of rows of four under a lower factor. The width is a literal here, so that sums and elements stay in registers.
+fn undo_lower_four(
+    rule: Rule,
+    col: &[i32],
+    fa: Layout,
+    row: &[i32],
+    fb: Layout,
+    i: usize,
+    x: &mut [i32; 256],
+) -> Outcome
+    requires { ⌜ RowAsks (now col) fa (now row) fb i (now x) × (fb .kind ≡ Lower) × (fb .order ≡ 4) ⌝ }
+    ensures { λ r. ⌜ RowDone bound (undoneOf rule (now (col .entry)) fa (now (row .entry)) fb) (undoneTurn fb i) (fb .order)
+        (now (x .entry)) (now (x .exit)) (r .ok) ⌝ }
+{
+    let mut v = [0i64; 16];
+    lower_rest_sums(col, fa, i, x, 4, &mut v);
+    undo_lower(rule, col, fa, row, fb, i, 0, 4, &mut v, x)
+}
+
+// The same for rows of eight.
+fn undo_lower_eight(
+    rule: Rule,
+    col: &[i32],
+    fa: Layout,
+    row: &[i32],
+    fb: Layout,
+    i: usize,
+    x: &mut [i32; 256],
+) -> Outcome
+    requires { ⌜ RowAsks (now col) fa (now row) fb i (now x) × (fb .kind ≡ Lower) × (fb .order ≡ 8) ⌝ }
+    ensures { λ r. ⌜ RowDone bound (undoneOf rule (now (col .entry)) fa (now (row .entry)) fb) (undoneTurn fb i) (fb .order)
+        (now (x .entry)) (now (x .exit)) (r .ok) ⌝ }
+{
+    let mut v = [0i64; 16];
+    lower_rest_sums(col, fa, i, x, 8, &mut v);
+    let a = undo_lower(rule, col, fa, row, fb, i, 0, 4, &mut v, x);
+    if !a.ok {
+        return a;
+    }
+    undo_lower(rule, col, fa, row, fb, i, 4, 8, &mut v, x)
+}
+
+// Row i under a lower factor: the sums without it, over the rows above it, then its elements.
 pub fn undo_lower_row(
     rule: Rule,
     col: &[i32],
     fa: Layout,
     row: &[i32],
     fb: Layout,
-    n: usize,
     i: usize,
     x: &mut [i32; 256],
 ) -> Outcome
-    requires { ⌜ RowAsks (now col) fa (now row) fb i (now x) × (fb .kind ≡ Lower) × (n ≡ fb .order) ⌝ }
+    requires { ⌜ RowAsks (now col) fa (now row) fb i (now x) × (fb .kind ≡ Lower) ⌝ }
     ensures { λ r. ⌜ RowDone bound (undoneOf rule (now (col .entry)) fa (now (row .entry)) fb) (undoneTurn fb i) (fb .order)
         (now (x .entry)) (now (x .exit)) (r .ok) ⌝ }
 {
-    let entries = fa.entries;
+    let n = fb.order;
+    if n == 4 {
+        return undo_lower_four(rule, col, fa, row, fb, i, x);
+    }
+    if n == 8 {
+        return undo_lower_eight(rule, col, fa, row, fb, i, x);
+    }
     let mut v = [0i64; 16];
-    side_sums(col, entries + before_lower(i), i, x, 0, n, &mut v);
+    lower_rest_sums(col, fa, i, x, n, &mut v);
     undo_lower_elements(rule, col, fa, row, fb, i, &mut v, x)
 }
 
-// Row i of rows of n under an upper factor: the sums without it, over the rows below it, then its elements.
+// Row i of rows of four under an upper factor. The width is a literal here, so that sums and elements stay in registers.
+fn undo_upper_four(
+    rule: Rule,
+    col: &[i32],
+    fa: Layout,
+    row: &[i32],
+    fb: Layout,
+    i: usize,
+    x: &mut [i32; 256],
+) -> Outcome
+    requires { ⌜ RowAsks (now col) fa (now row) fb i (now x) × (fb .kind ≡ Upper) × (fb .order ≡ 4) ⌝ }
+    ensures { λ r. ⌜ RowDone bound (undoneOf rule (now (col .entry)) fa (now (row .entry)) fb) (undoneTurn fb i) (fb .order)
+        (now (x .entry)) (now (x .exit)) (r .ok) ⌝ }
+{
+    let mut v = [0i64; 16];
+    upper_rest_sums(col, fa, i, x, 4, &mut v);
+    undo_upper(rule, col, fa, row, fb, 4, i, 0, 4, &mut v, x)
+}
+
+// The same for rows of eight.
+fn undo_upper_eight(
+    rule: Rule,
+    col: &[i32],
+    fa: Layout,
+    row: &[i32],
+    fb: Layout,
+    i: usize,
+    x: &mut [i32; 256],
+) -> Outcome
+    requires { ⌜ RowAsks (now col) fa (now row) fb i (now x) × (fb .kind ≡ Upper) × (fb .order ≡ 8) ⌝ }
+    ensures { λ r. ⌜ RowDone bound (undoneOf rule (now (col .entry)) fa (now (row .entry)) fb) (undoneTurn fb i) (fb .order)
+        (now (x .entry)) (now (x .exit)) (r .ok) ⌝ }
+{
+    let mut v = [0i64; 16];
+    upper_rest_sums(col, fa, i, x, 8, &mut v);
+    let a = undo_upper(rule, col, fa, row, fb, 8, i, 0, 4, &mut v, x);
+    if !a.ok {
+        return a;
+    }
+    undo_upper(rule, col, fa, row, fb, 8, i, 4, 8, &mut v, x)
+}
+
+// Row i under an upper factor: the sums without it, over the rows below it, then its elements.
 pub fn undo_upper_row(
     rule: Rule,
     col: &[i32],
     fa: Layout,
     row: &[i32],
     fb: Layout,
-    n: usize,
     i: usize,
     x: &mut [i32; 256],
 ) -> Outcome
-    requires { ⌜ RowAsks (now col) fa (now row) fb i (now x) × (fb .kind ≡ Upper) × (n ≡ fb .order) ⌝ }
+    requires { ⌜ RowAsks (now col) fa (now row) fb i (now x) × (fb .kind ≡ Upper) ⌝ }
     ensures { λ r. ⌜ RowDone bound (undoneOf rule (now (col .entry)) fa (now (row .entry)) fb) (undoneTurn fb i) (fb .order)
         (now (x .entry)) (now (x .exit)) (r .ok) ⌝ }
 {
-    let entries = fa.entries;
-    let m = fa.order;
+    let n = fb.order;
+    if n == 4 {
+        return undo_upper_four(rule, col, fa, row, fb, i, x);
+    }
+    if n == 8 {
+        return undo_upper_eight(rule, col, fa, row, fb, i, x);
+    }
     let mut v = [0i64; 16];
-    side_sums(
-        col,
-        entries + before_upper(m, i),
-        m - 1 - i,
-        x,
-        (i + 1) * n,
-        n,
-        &mut v,
-    );
+    upper_rest_sums(col, fa, i, x, n, &mut v);
     undo_upper_elements(rule, col, fa, row, fb, i, &mut v, x)
 }

@@ -1,154 +1,53 @@
--- The first 4 g columns are done, the others are 0 (`four-more`).
-use mathlib.Core.Path.{_≡_, refl, sym, _∙_}
-use Prim.Native.Nat.{_+_, _*_, _-_, _/_, _%_, _≤_}
-use native.Mathlib.Nat.{div-add-mod}
+-- All columns at once, the own terms first, or by fours: the sums start from nothing.
+use borrow.Author.Needs.{needs}
+use mathlib.Core.Path.{_∙_}
 use native.Mathlib.Omega.{arith}
-use lib.IntN.{pos, _*ℤ_}
+use lib.IntN.{pos}
 use lib.ListN.{replicate}
 use mir.Facts.{toZ-ofZ}
-use mir.Syntax.{w32}
-use mir.Val.{toZ}
-use Rattle.rules.specs.Numbers.{at}
-use Rattle.rules.specs.Stages.{fill}
 use Rattle.rules.specs.Laws.Lists.{length-fill}
-use Rattle.joint.specs.Sums.{Adding, added, sideWith, side-adding, side-four, nothing, own-small, four-with, four-more}
-use Rattle.joint.specs.Sums.{added-twice}
-use Rattle.joint.specs.Sums.{adding-all-small}
+use Rattle.joint.specs.Sums.{side-adding, nothing, own-small, added-twice}
 use Rattle.joint.proofs.sums.side_sums_with.Statement.{statement}
 use Rattle.joint.proofs.sums.side_sums_with.Tie as tie
 
-abbrev Inv-loop : tie.InvT-loop
-Inv-loop a p m x k n diagonal o v₀ g₀ g-end v g =
-    (g ≤ n / 4) × (g-end ≡ n / 4) × (v ≡ added (4 * g) (sideWith a p m x k n (toZ w32 diagonal) o) (replicate 16 (pos 0)))
+is-by-fours-requires : tie.Need-is-by-fours-requires
+is-by-fours-requires c κs = search needs
 
-abbrev μ-loop : tie.MeasureT-loop
-μ-loop a p m x k n diagonal o v₀ g₀ g-end v g = g-end - g
+sums-by-fours-with-requires : tie.Need-sums-by-fours-with-requires
+sums-by-fours-with-requires c κs =
+    let t = c .before in
+    let s = t .before .before in
+    rw (toZ-ofZ (s .fits .diagonal))
+    (s .pre .0, s .pre .1, s .pre .2, s .pre .3, s .pre .4, t .before .is-by-fours .ensures (t .if1 .taken))
 
-add-row-requires : tie.Need-add-row-requires Inv-loop μ-loop
+returns : tie.Need-returns
+returns c =
+    let s = c .before .before .before .before in
+    rw (toZ-ofZ (s .fits .diagonal)) at (c .sums-by-fours-with .ensures)
+
+add-row-requires : tie.Need-add-row-requires
 add-row-requires c κs =
-    let s = c .before .before in
+    let s = c .before .before .before in
     rw (toZ-ofZ (s .fits .diagonal)) (s .pre .0 .wide, s .pre .3, s .pre .4, s .pre .0 .numbers, rw (s .pre .1) (nothing 16))
 
-add-rows-requires : tie.Need-add-rows-requires Inv-loop μ-loop
+add-rows-requires : tie.Need-add-rows-requires
 add-rows-requires c κs =
     let r = c .before in
-    let s = r .before .before .before in
+    let s = r .before .before .before .before in
     let n = s .args .n in
     rw (r .add-row .ensures, s .pre .1, toZ-ofZ (s .fits .diagonal))
     (side-adding (s .pre .0) (s .args .k) n 1 (omega arith) (omega (arith, s .pre .2)) (s .pre .0 .wide)
     (own-small n (s .args .o) (s .pre .0 .wide) (s .pre .0 .numbers) (s .pre .4)) (length-fill n _ (replicate 16 (pos 0))))
 
-returns : tie.Need-returns Inv-loop μ-loop
-returns c =
-    let r = c .before .before in
-    let s = r .before .before .before in
-    c .add-rows .ensures ∙ rw (r .add-row .ensures, s .pre .1, toZ-ofZ (s .fits .diagonal)) (added-twice (s .args .n) _ _ (replicate 16 (pos 0)) (s .pre .0 .wide))
-
-loop-holds : tie.Need-loop-holds Inv-loop μ-loop
-unfolding fill
-loop-holds c = (omega arith, refl, c .before .pre .1)
-
--- the columns of this turn
-columns : (i : tie.In-loop Inv-loop μ-loop) → 4 * i .before .loop .g + 4 ≤ i .before .before .before .args .n
-columns i = let s = i .before .before .before in omega (arith, div-add-mod (s .args .n) 4, i .before .loop .inv .1, i .loop-test .taken)
-
--- their rows, once the own terms are in their sums
-rows :
-    (i : tie.In-loop Inv-loop μ-loop) →
-    let s = i .before .before .before .args in
-    let g = i .before .loop .g in
-    Adding (s .a .now) (s .p) (s .m) (s .x .now) (s .k + 4 * g) (s .n) 4
-    (added 4 (λ c. s .diagonal *ℤ at (s .x .now) (s .o + 4 * g + c)) (replicate 16 (pos 0)))
-rows i =
-    let s = i .before .before .before in
-    let h = s .pre .0 in
-    let g = i .before .loop .g in
-    side-four h (4 * g) 1 (columns i) (omega (arith, s .pre .2))
-    (own-small 4 (s .args .o + 4 * g) (omega arith) (h .numbers) (s .pre .4))
-    (length-fill 4 _ (replicate 16 (pos 0)))
-
-mul-add-row : tie.Need-mul-add-row Inv-loop μ-loop
-mul-add-row c = let h = columns c in let w = c .before .before .before .pre .0 .wide in omega arith
-
-add-add-row : tie.Need-add-add-row Inv-loop μ-loop
-add-add-row c = let h = columns c in let o = c .before .before .before .pre .3 in omega arith
-
-add-row-requires-2 : tie.Need-add-row-requires-2 Inv-loop μ-loop
-add-row-requires-2 c κs =
-    let i = c .before in
-    let s = i .before .before .before in
-    rw (toZ-ofZ (s .fits .diagonal))
-    (omega arith, omega (arith, columns i, s .pre .3), s .pre .4, s .pre .0 .numbers, nothing 16)
-
-mul-add-rows : tie.Need-mul-add-rows Inv-loop μ-loop
-mul-add-rows c =
-    let i = c .before .before in
-    let h = columns i in
-    let w = i .before .before .before .pre .0 .wide in
-    omega arith
-
-add-add-rows : tie.Need-add-add-rows Inv-loop μ-loop
-add-add-rows c =
-    let i = c .before .before in
-    let h = columns i in
-    let s = i .before .before .before .pre .0 in
-    omega (arith, s .wide, s .start)
-
-add-rows-requires-2 : tie.Need-add-rows-requires-2 Inv-loop μ-loop
-add-rows-requires-2 c κs =
-    let r = c .before in
-    let i = r .before .before in
-    rw (r .add-row2 .ensures, toZ-ofZ (i .before .before .before .fits .diagonal)) (rows i)
-
-mul-put-four : tie.Need-mul-put-four Inv-loop μ-loop
-mul-put-four c =
-    let i = c .before .before .before .before .before .before in
-    let h = columns i in
-    let w = i .before .before .before .pre .0 .wide in
-    omega arith
-
-put-four-requires : tie.Need-put-four-requires Inv-loop μ-loop
-put-four-requires c κs =
-    let a = c .before .before in
-    let r = a .before .before in
-    let i = r .before .before in (
-      omega (arith, columns i, i .before .before .before .pre .0 .wide),
-      rw (a .add-rows2 .ensures, r .add-row2 .ensures, toZ-ofZ (i .before .before .before .fits .diagonal)) (adding-all-small (rows i)),
-    )
-
-add-g : tie.Need-add-g Inv-loop μ-loop
-add-g c = omega arith
-
-loop-less : tie.Need-loop-less Inv-loop μ-loop
-loop-less c = omega arith
-
-loop-again : tie.Need-loop-again Inv-loop μ-loop
-loop-again c =
-    let a = c .before .before .before in
-    let r = a .before .before in
-    let i = r .before .before in
-    let s = i .before .before .before .args in
-    let d = toZ-ofZ (i .before .before .before .fits .diagonal) in
-    let g = i .before .loop .g in (
-      omega (arith, i .before .loop .inv .1, i .loop-test .taken),
-      refl,
-      rw d (c .put-four .ensures
-          ∙ four-more (sideWith (s .a .now) (s .p) (s .m) (s .x .now) (s .k) (s .n) (s .diagonal) (s .o)) g _ _
-          (a .add-rows2 .ensures ∙ rw (r .add-row2 .ensures, d)
-          (four-with (s .a .now) (s .p) (s .m) (s .x .now) (s .k) (s .n) (s .diagonal) (s .o) (4 * g)))
-          (rw d at (i .before .loop .inv .2))),
-    )
-
-returns-2 : tie.Need-returns-2 Inv-loop μ-loop
+returns-2 : tie.Need-returns-2
 returns-2 c =
-    let l = c .before .loop in
-    let s = c .before .before .before in
-    let e : 4 * l .g ≡ s .args .n = omega (arith, div-add-mod (s .args .n) 4, l .inv .1, c .loop-test .left, c .before .before .if1 .left) in
-    l .inv .2 ∙ rw (e, toZ-ofZ (s .fits .diagonal))
+    let r = c .before .before in
+    let s = r .before .before .before .before in
+    c .add-rows .ensures
+    ∙ rw (r .add-row .ensures, s .pre .1, toZ-ofZ (s .fits .diagonal))
+    (added-twice (s .args .n) _ _ (replicate 16 (pos 0)) (s .pre .0 .wide))
 
 pub side-sums-with-spec : {M : Type 1} → statement M
 side-sums-with-spec =
     tie.close
-    (tie.spec Inv-loop μ-loop add-row-requires add-rows-requires returns loop-holds mul-add-row add-add-row
-    add-row-requires-2 mul-add-rows add-add-rows add-rows-requires-2 mul-put-four
-    put-four-requires add-g loop-less loop-again returns-2)
+    (tie.spec is-by-fours-requires sums-by-fours-with-requires returns add-row-requires add-rows-requires returns-2)

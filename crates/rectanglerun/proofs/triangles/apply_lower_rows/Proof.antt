@@ -12,10 +12,10 @@ use Rattle.rectanglerun.proofs.triangles.apply_lower_rows.Statement.{st
 use Rattle.rectanglerun.proofs.triangles.apply_lower_rows.Tie as tie
 
 abbrev Inv-loop : tie.InvT-loop
-Inv-loop rule col fa row fb n x₀ m s₀ x s = (s ≤ m) × Rows Forward rule col fa row fb x₀ s x
+Inv-loop rule col fa row fb x₀ m s₀ x s = (s ≤ m) × Rows Forward rule col fa row fb x₀ s x
 
 abbrev μ-loop : tie.MeasureT-loop
-μ-loop rule col fa row fb n x₀ m s₀ x s = m - s
+μ-loop rule col fa row fb x₀ m s₀ x s = m - s
 
 loop-holds : tie.Need-loop-holds Inv-loop μ-loop
 loop-holds c = (omega arith, no-rows (c .pre .0))
@@ -27,7 +27,9 @@ sub-apply-lower-row-2 : tie.Need-sub-apply-lower-row-2 Inv-loop μ-loop
 sub-apply-lower-row-2 c = omega arith
 
 -- the row of this turn
-turn : (i : tie.In-loop Inv-loop μ-loop) → i .before .before .args .fa .order - 1 - i .before .loop .s ≡ nthRow Forward (i .before .before .args .fa) (i .before .loop .s)
+turn : (i : tie.In-loop Inv-loop μ-loop) →
+    i .before .before .args .fa .order - 1 - i .before .loop .s
+    ≡ nthRow Forward (i .before .before .args .fa) (i .before .loop .s)
 turn i =
     let s = i .before .before in
     lower-applied (s .args .fa) (i .before .loop .s) (s .pre .0 .alike ∙ s .pre .1) (i .loop-test .taken)
@@ -37,7 +39,7 @@ unfolding limitOf
 apply-lower-row-requires c κs =
     let t = c .before in
     let s = t .before .before in
-    (row-asks (s .pre .0) (t .loop-test .taken) (turn t) refl (t .before .loop .inv .1), s .pre .1, s .pre .2)
+    (row-asks (s .pre .0) (t .loop-test .taken) (turn t) refl (t .before .loop .inv .1), s .pre .1)
 
 returns : tie.Need-returns Inv-loop μ-loop
 unfolding limitOf elementOf rowOrder
@@ -71,5 +73,5 @@ returns-2 c =
 pub apply-lower-rows-spec : {M : Type 1} → statement M
 apply-lower-rows-spec =
     tie.close
-    (tie.spec Inv-loop μ-loop loop-holds sub-apply-lower-row sub-apply-lower-row-2 apply-lower-row-requires returns add-s loop-less loop-again
-    returns-2)
+    (tie.spec Inv-loop μ-loop loop-holds sub-apply-lower-row sub-apply-lower-row-2 apply-lower-row-requires
+    returns add-s loop-less loop-again returns-2)

@@ -12,10 +12,10 @@ use Rattle.rectanglerun.proofs.triangles.apply_upper_rows.Statement.{st
 use Rattle.rectanglerun.proofs.triangles.apply_upper_rows.Tie as tie
 
 abbrev Inv-loop : tie.InvT-loop
-Inv-loop rule col fa row fb n x₀ m s₀ x s = (s ≤ m) × Rows Forward rule col fa row fb x₀ s x
+Inv-loop rule col fa row fb x₀ m s₀ x s = (s ≤ m) × Rows Forward rule col fa row fb x₀ s x
 
 abbrev μ-loop : tie.MeasureT-loop
-μ-loop rule col fa row fb n x₀ m s₀ x s = m - s
+μ-loop rule col fa row fb x₀ m s₀ x s = m - s
 
 loop-holds : tie.Need-loop-holds Inv-loop μ-loop
 loop-holds c = (omega arith, no-rows (c .pre .0))
@@ -31,7 +31,7 @@ unfolding limitOf
 apply-upper-row-requires c κs =
     let t = c .before in
     let s = t .before .before in
-    (row-asks (s .pre .0) (t .loop-test .taken) (turn t) refl (t .before .loop .inv .1), s .pre .1, s .pre .2)
+    (row-asks (s .pre .0) (t .loop-test .taken) (turn t) refl (t .before .loop .inv .1), s .pre .1)
 
 returns : tie.Need-returns Inv-loop μ-loop
 unfolding limitOf elementOf rowOrder

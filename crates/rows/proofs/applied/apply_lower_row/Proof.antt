@@ -1,121 +1,55 @@
--- The sums over the rows above it and its own numbers are the sums of the row (`with-own`). The elements of the runs are the
--- row's, from the sums of the block before it (`applied-row`).
+-- The sums are the row's, so its elements are the row (`asks-run`, `run-row`).
 use borrow.Author.Needs.{needs}
-use mathlib.Core.Path.{_≡_, refl, ap, _∙_}
-use Prim.Native.Nat.{_+_, _-_, _*_, _≤_}
+use mathlib.Core.Path.{_≡_, refl, _∙_}
 use native.Mathlib.Omega.{arith}
 use mir.Syntax.{w32}
 use mir.Val.{toZ, ofZ}
-use Rattle.whole.specs.Machine.{back, fits}
-use Rattle.factor.specs.Layouts.{rowOf}
-use Rattle.joint.specs.Elements.{signAt, diagonalOf, sumsAt, diagonal-small, sums-small}
-use Rattle.rows.specs.RowsInPlace.{in-block}
-use Rattle.rows.specs.Triangles.{applied-row, lower-at, lower-side, lower-rest, with-own}
+use Rattle.whole.specs.Machine.{back}
+use Rattle.joint.specs.Elements.{signAt}
+use Rattle.rows.specs.Triangles.{asks-room, asks-sums, asks-run, run-row}
 use Rattle.rows.proofs.applied.apply_lower_row.Statement.{statement}
 use Rattle.rows.proofs.applied.apply_lower_row.Tie as tie
+
+apply-lower-four-requires : tie.Need-apply-lower-four-requires
+apply-lower-four-requires c κs = search needs
+
+returns : tie.Need-returns
+returns c = search needs
 
 sign-at-requires : tie.Need-sign-at-requires
 sign-at-requires c κs = search needs
 
-before-lower-requires : tie.Need-before-lower-requires
-before-lower-requires c κs = search needs
-
--- the row lies in the block
-room : (s : tie.Start) → s .args .i * s .args .n + s .args .n ≤ 256
-room s =
-    let n = s .pre .0 .low in
-    let h = in-block (s .args .fb .order - 1) (s .pre .0 .column .order) (s .pre .0 .row .order) (s .pre .0 .below) (omega arith) in
-    rw (s .pre .2) (omega arith)
-
--- where its entries start
-place : (c : tie.After-before-lower) →
+sign : (c : tie.After-sign-at) →
     let s = c .before .before in
-    s .args .fa .entries + c .before-lower .result ≡ rowOf (s .args .fa) (s .args .i) .at
-place c =
-    let s = c .before .before in
-    rw (c .before-lower .ensures, lower-at (s .args .fa) (s .args .i) (s .pre .0 .alike ∙ s .pre .1))
-
-add-side-sums-with : tie.Need-add-side-sums-with
-add-side-sums-with c =
-    let s = c .before .before in
-    let h = s .pre .0 .column .row (s .args .i) (s .pre .0 .below) .room in
-    omega (arith, place c)
-
-sign : (c : tie.After-sign-at) → toZ w32 (ofZ w32 (c .sign-at .result)) ≡ signAt (c .before .args .col .now) (c .before .args .fa)
-    (c .before .args .i)
+    toZ w32 (ofZ w32 (c .sign-at .result)) ≡ signAt (s .args .col .now) (s .args .fa) (s .args .i)
 sign c = back w32 _ (c .sign-at .ok) ∙ c .sign-at .ensures
 
-diagonal-of-requires : tie.Need-diagonal-of-requires
-diagonal-of-requires c κs =
-    let s = c .before .before .before in
-    rw (sign (c .before .before)) (fits (diagonal-small (s .pre .0 .column .sign (s .args .i) (s .pre .0 .below))) tt)
-
-diagonal : (c : tie.After-diagonal-of) →
+lower-sums-requires : tie.Need-lower-sums-requires
+lower-sums-requires c κs =
     let s = c .before .before .before .before in
-    toZ w32 (ofZ w32 (c .diagonal-of .result)) ≡ diagonalOf (signAt (s .args .col .now) (s .args .fa) (s .args .i))
-diagonal c = back w32 _ (c .diagonal-of .ok) ∙ c .diagonal-of .ensures ∙ ap diagonalOf (sign (c .before .before .before))
-
-mul-side-sums-with : tie.Need-mul-side-sums-with
-mul-side-sums-with c = omega (arith, room (c .before .before .before .before))
-
-side-sums-with-requires : tie.Need-side-sums-with-requires
-side-sums-with-requires c κs =
-    let o = c .before in
-    let b = o .before .before in
-    let s = b .before .before in
-    let h = s .pre .0 in
-    rw (diagonal o) (
-      lower-side (h .column) (h .below) (h .small) (rw (s .pre .2) (h .row .order)) (place b) (h .alike ∙ s .pre .1),
-      refl,
-      (let l = h .below in let e = h .column .order in omega arith),
-      room s,
-      diagonal-small (h .column .sign (s .args .i) (h .below)),
-    )
-
--- the sums of the row
-sums : (c : tie.After-side-sums-with) →
-    let s = c .before .before .before .before .before .before in
-    c .side-sums-with .last .1 .1 .1 .1 .1 .1 .1 .1 .0 ≡ sumsAt (s .args .col .now) (s .args .fa) (s .args .i) (s .args .x .now) (s .args .fb .order)
-sums c =
-    let o = c .before .before in
-    let b = o .before .before in
-    let s = b .before .before in
-    let h = s .pre .0 in
-    let e = h .alike ∙ s .pre .1 in
-    let few : s .args .n ≤ 16 = rw (s .pre .2) (h .row .order) in
-    c .side-sums-with .ensures ∙ rw (diagonal o)
-    (with-own (h .column) (h .below) (h .small) few (place b) (s .args .i) 0
-    (lower-rest (h .column) (h .below) (h .small) few (place b) e) ∙ rw (s .pre .2))
+    (asks-sums (s .pre .0) refl, s .pre .0 .alike ∙ s .pre .1)
 
 mul-apply-lower-elements : tie.Need-mul-apply-lower-elements
-mul-apply-lower-elements c = omega (arith, room (c .before .before .before .before .before .before .before))
+mul-apply-lower-elements c =
+    let s = c .before .before .before .before .before .before in
+    omega (arith, asks-room (s .pre .0) refl)
 
 apply-lower-elements-requires : tie.Need-apply-lower-elements-requires
 apply-lower-elements-requires c κs =
     let a = c .before .before in
-    let s = a .before .before .before .before .before .before in
-    let h = s .pre .0 in
-    rw (sign (a .before .before .before .before .before), sums a) (
-      (
-        h .row,
-        h .column .sign (s .args .i) (h .below),
-        sums-small (h .column) (s .args .i) (h .below) (s .args .fb .order) (h .small),
-        omega (arith, room s, s .pre .2),
-        h .small,
-        (let l = h .low in omega arith),
-      ),
-      s .pre .1,
-    )
+    let d = a .before .before .before in
+    let s = d .before .before in
+    (asks-run (s .pre .0) refl (sign d) (a .lower-sums .ensures), s .pre .1)
 
-returns : tie.Need-returns
-returns c =
+returns-2 : tie.Need-returns-2
+returns-2 c =
     let a = c .before .before .before in
-    let s = a .before .before .before .before .before .before in
-    applied-row (s .args .rule) (s .args .col .now) (s .args .fa) (s .args .row .now) (s .args .fb) (s .args .i) (s .args .x .now)
-    (rw (sign (a .before .before .before .before .before), sums a, s .pre .2) at (c .apply-lower-elements .ensures))
+    let d = a .before .before .before in
+    let s = d .before .before in
+    run-row (s .pre .0) refl (sign d) (a .lower-sums .ensures) (s .args .rule) (c .apply-lower-elements .ensures)
 
 pub apply-lower-row-spec : {M : Type 1} → statement M
 apply-lower-row-spec =
     tie.close
-    (tie.spec sign-at-requires before-lower-requires add-side-sums-with diagonal-of-requires mul-side-sums-with
-    side-sums-with-requires mul-apply-lower-elements apply-lower-elements-requires returns)
+    (tie.spec apply-lower-four-requires returns sign-at-requires lower-sums-requires mul-apply-lower-elements
+    apply-lower-elements-requires returns-2)

@@ -1,170 +1,118 @@
--- Runs one after another are one run (`run-both`).
+-- Each run goes on where the one before it ends (`undone-more`).
 use borrow.Author.Tests.{not-true, not-false}
 use mathlib.Core.Path.{refl, sym}
 use native.Mathlib.Omega.{arith}
-use Rattle.rows.specs.RowsInPlace.{run-all, run-both, run-short}
-use Rattle.rows.specs.TrianglesUndone.{undo-given}
+use Rattle.rows.specs.TrianglesUndone.{undone-none, undone-more, undone-stops, undone-all}
 use Rattle.rows.proofs.undone.undo_upper_elements.Statement.{statement}
 use Rattle.rows.proofs.undone.undo_upper_elements.Tie as tie
 
 undo-upper-requires : tie.Need-undo-upper-requires
-undo-upper-requires c κs = (
-  c .before .before .before .pre .0,
-  c .before .before .before .pre .1,
-  omega arith,
-  (let e = c .before .before .if1 .taken
-      in omega arith),
-  sym (c .before .before .if1 .taken),
-)
+undo-upper-requires c κs =
+    let t = c .before .before in
+    let s = t .before in
+    (s .pre .0, s .pre .1, omega arith, omega (arith, t .if1 .taken), sym (t .if1 .taken))
 
 returns : tie.Need-returns
-returns c = run-all _ 4 (c .before .before .before .if1 .taken) (c .undo-upper .ensures .0)
+returns c =
+    let r1 = c .before .before in
+    let t = r1 .before .before .before in
+    let s = t .before in
+    let u0 = undone-none (s .pre .0) in
+    undone-stops 0 4 u0 (r1 .undo-upper .ensures) (omega arith) (not-true _ (c .if2 .taken)) (omega (arith, t .if1 .taken))
 
 undo-upper-requires-2 : tie.Need-undo-upper-requires-2
-undo-upper-requires-2 c κs = (
-  c .before .before .before .before .pre .0,
-  c .before .before .before .before .pre .1,
-  omega arith,
-  (let e = c .before
-      .before .if2 .taken in omega arith),
-  sym (c .before .before .if2 .taken),
-)
+undo-upper-requires-2 c κs =
+    let e1 = c .before .before in
+    let r1 = e1 .before .before in
+    let t = r1 .before .before .before in
+    let s = t .before in
+    let u0 = undone-none (s .pre .0) in
+    let u1 = undone-more 0 4 u0 (r1 .undo-upper .ensures) (omega arith) (not-false _ (e1 .if2 .left)) in
+    (u1 .given, s .pre .1, omega arith, omega (arith, t .if1 .taken), sym (t .if1 .taken))
 
 returns-2 : tie.Need-returns-2
 returns-2 c =
-    run-short _ 4 8 (c .before .before .before .before .before .if2 .taken) (omega arith) (not-true _ (c .if3 .taken)) (run-all
-    _ 4 refl (c .before .before .undo-upper2 .ensures .0))
+    let r2 = c .before .before in
+    let e1 = r2 .before .before .before in
+    let r1 = e1 .before .before in
+    let t = r1 .before .before .before in
+    let s = t .before in
+    let u0 = undone-none (s .pre .0) in
+    let u1 = undone-more 0 4 u0 (r1 .undo-upper .ensures) (omega arith) (not-false _ (e1 .if2 .left)) in
+    undone-stops 4 8 u1 (r2 .undo-upper2 .ensures) (omega arith) (not-true _ (c .if3 .taken)) (omega (arith, t .if1 .taken))
 
 undo-upper-requires-3 : tie.Need-undo-upper-requires-3
 undo-upper-requires-3 c κs =
-    let s = c .before .before .before .before .before .before .before .before .before in
-    let a = c .before .before .before .before .undo-upper2 .ensures in
-    let t = not-false _ (c .before .before .if3 .left) in (
-      undo-given (s .pre .0) (a .0) t (a .1 t),
-      s .pre .1,
-      omega arith,
-      (let e = c .before .before .before .before .before
-          .before .before .if2 .taken in omega arith),
-      sym (c .before .before .before .before .before .before .before .if2 .taken),
-    )
+    let e2 = c .before .before in
+    let r2 = e2 .before .before in
+    let e1 = r2 .before .before .before in
+    let r1 = e1 .before .before in
+    let t = r1 .before .before .before in
+    let s = t .before in
+    let u0 = undone-none (s .pre .0) in
+    let u1 = undone-more 0 4 u0 (r1 .undo-upper .ensures) (omega arith) (not-false _ (e1 .if2 .left)) in
+    let u2 = undone-more 4 8 u1 (r2 .undo-upper2 .ensures) (omega arith) (not-false _ (e2 .if3 .left)) in
+    (u2 .given, s .pre .1, omega arith, omega (arith, t .if1 .taken), sym (t .if1 .taken))
 
 returns-3 : tie.Need-returns-3
 returns-3 c =
-    run-both _ 4 8 (c .before .before .before .before .before .before .before .before .if2 .taken) (omega arith) (run-all _ 4
-    refl (rw (not-false (c .before .before .before .before .before .undo-upper2 .result .ok) (c .before .before .before .if3
-    .left)) at (c .before .before .before .before .before .undo-upper2 .ensures .0))) (c .undo-upper3 .ensures .0)
+    let r3 = c .before .before in
+    let e2 = r3 .before .before .before in
+    let r2 = e2 .before .before in
+    let e1 = r2 .before .before .before in
+    let r1 = e1 .before .before in
+    let t = r1 .before .before .before in
+    let s = t .before in
+    let u0 = undone-none (s .pre .0) in
+    let u1 = undone-more 0 4 u0 (r1 .undo-upper .ensures) (omega arith) (not-false _ (e1 .if2 .left)) in
+    let u2 = undone-more 4 8 u1 (r2 .undo-upper2 .ensures) (omega arith) (not-false _ (e2 .if3 .left)) in
+    undone-stops 8 12 u2 (r3 .undo-upper3 .ensures) (omega arith) (not-true _ (c .if4 .taken)) (omega (arith, t .if1 .taken))
 
 undo-upper-requires-4 : tie.Need-undo-upper-requires-4
-undo-upper-requires-4 c κs = (
-  c .before .before .before .before .before .pre .0,
-  c .before .before .before .before .before .pre .1,
-  omega arith,
-  (let e =
-      c .before .before .if4 .taken in omega arith),
-  sym (c .before .before .if4 .taken),
-)
+undo-upper-requires-4 c κs =
+    let e3 = c .before .before in
+    let r3 = e3 .before .before in
+    let e2 = r3 .before .before .before in
+    let r2 = e2 .before .before in
+    let e1 = r2 .before .before .before in
+    let r1 = e1 .before .before in
+    let t = r1 .before .before .before in
+    let s = t .before in
+    let u0 = undone-none (s .pre .0) in
+    let u1 = undone-more 0 4 u0 (r1 .undo-upper .ensures) (omega arith) (not-false _ (e1 .if2 .left)) in
+    let u2 = undone-more 4 8 u1 (r2 .undo-upper2 .ensures) (omega arith) (not-false _ (e2 .if3 .left)) in
+    let u3 = undone-more 8 12 u2 (r3 .undo-upper3 .ensures) (omega arith) (not-false _ (e3 .if4 .left)) in
+    (u3 .given, s .pre .1, omega arith, omega (arith, t .if1 .taken), sym (t .if1 .taken))
 
 returns-4 : tie.Need-returns-4
 returns-4 c =
-    run-short _ 4 16 (c .before .before .before .before .before .if4 .taken) (omega arith) (not-true _ (c .if5 .taken)) (run-all
-    _ 4 refl (c .before .before .undo-upper4 .ensures .0))
+    let e3 = c .before .before .before in
+    let r3 = e3 .before .before in
+    let e2 = r3 .before .before .before in
+    let r2 = e2 .before .before in
+    let e1 = r2 .before .before .before in
+    let r1 = e1 .before .before in
+    let t = r1 .before .before .before in
+    let s = t .before in
+    let u0 = undone-none (s .pre .0) in
+    let u1 = undone-more 0 4 u0 (r1 .undo-upper .ensures) (omega arith) (not-false _ (e1 .if2 .left)) in
+    let u2 = undone-more 4 8 u1 (r2 .undo-upper2 .ensures) (omega arith) (not-false _ (e2 .if3 .left)) in
+    let u3 = undone-more 8 12 u2 (r3 .undo-upper3 .ensures) (omega arith) (not-false _ (e3 .if4 .left)) in
+    undone-all 12 16 u3 (c .undo-upper4 .ensures) (omega arith) (t .if1 .taken)
 
 undo-upper-requires-5 : tie.Need-undo-upper-requires-5
 undo-upper-requires-5 c κs =
-    let s = c .before .before .before .before .before .before .before .before .before .before in
-    let a = c .before .before .before .before .undo-upper4 .ensures in
-    let t = not-false _ (c .before .before .if5 .left) in (
-      undo-given (s .pre .0) (a .0) t (a .1 t),
-      s .pre .1,
-      omega arith,
-      (let e = c .before .before .before .before .before
-          .before .before .if4 .taken in omega arith),
-      sym (c .before .before .before .before .before .before .before .if4 .taken),
-    )
-
-returns-5 : tie.Need-returns-5
-returns-5 c =
-    run-short _ 8 16 (c .before .before .before .before .before .before .before .before .before .before .if4 .taken) (omega
-    arith) (not-true _ (c .if6 .taken)) (run-both _ 4 8 refl (omega arith) (run-all _ 4 refl (rw (not-false (c .before .before
-    .before .before .before .before .before .undo-upper4 .result .ok) (c .before .before .before .before .before .if5 .left)) at
-    (c .before .before .before .before .before .before .before .undo-upper4 .ensures .0))) (c .before .before .undo-upper5
-    .ensures .0))
-
-undo-upper-requires-6 : tie.Need-undo-upper-requires-6
-undo-upper-requires-6 c κs =
-    let s = c .before .before .before .before .before .before .before .before .before .before .before .before .before .before
-    .before in
-    let a = c .before .before .before .before .before .before .before .before .before .undo-upper4 .ensures in
-    let t = not-false _ (c .before .before .before .before .before .before .before .if5 .left) in
-    let b = c .before .before .before .before .undo-upper5 .ensures in
-    let w = not-false _ (c .before .before .if6 .left) in (
-      undo-given (undo-given (s .pre .0) (a .0) t (a .1 t)) (b .0) w (b .1 w),
-      s .pre .1,
-      omega arith,
-      (let e = c .before .before
-          .before .before .before .before .before .before .before .before .before .before .if4 .taken in omega arith),
-      sym (c .before
-          .before .before .before .before .before .before .before .before .before .before .before .if4 .taken),
-    )
-
-returns-6 : tie.Need-returns-6
-returns-6 c =
-    run-short _ 12 16 (c .before .before .before .before .before .before .before .before .before .before .before .before .before
-    .before .before .if4 .taken) (omega arith) (not-true _ (c .if7 .taken)) (run-both _ 8 12 refl (omega arith) (run-both _ 4 8
-    refl (omega arith) (run-all _ 4 refl (rw (not-false (c .before .before .before .before .before .before .before .before
-    .before .before .before .before .undo-upper4 .result .ok) (c .before .before .before .before .before .before .before .before
-    .before .before .if5 .left)) at (c .before .before .before .before .before .before .before .before .before .before .before
-    .before .undo-upper4 .ensures .0))) (rw (not-false (c .before .before .before .before .before .before .before .undo-upper5
-    .result .ok) (c .before .before .before .before .before .if6 .left)) at (c .before .before .before .before .before .before
-    .before .undo-upper5 .ensures .0))) (c .before .before .undo-upper6 .ensures .0))
-
-undo-upper-requires-7 : tie.Need-undo-upper-requires-7
-undo-upper-requires-7 c κs =
-    let s = c .before .before .before .before .before .before .before .before .before .before .before .before .before .before
-    .before .before .before .before .before .before in
-    let a = c .before .before .before .before .before .before .before .before .before .before .before .before .before .before
-    .undo-upper4 .ensures in
-    let t = not-false _ (c .before .before .before .before .before .before .before .before .before .before .before .before .if5
-    .left) in
-    let b = c .before .before .before .before .before .before .before .before .before .undo-upper5 .ensures in
-    let w = not-false _ (c .before .before .before .before .before .before .before .if6 .left) in
-    let d = c .before .before .before .before .undo-upper6 .ensures in
-    let z = not-false _ (c .before .before .if7 .left) in (
-      undo-given (undo-given (undo-given (s .pre .0) (a .0) t (a .1 t)) (b .0) w (b .1 w)) (d .0) z (d .1 z),
-      s .pre .1,
-      omega
-          arith,
-      (let e = c .before .before .before .before .before .before .before .before .before .before .before .before .before
-          .before .before .before .before .if4 .taken in omega arith),
-      sym (c .before .before .before .before .before .before .before
-          .before .before .before .before .before .before .before .before .before .before .if4 .taken),
-    )
-
-returns-7 : tie.Need-returns-7
-returns-7 c =
-    run-both _ 12 16 (c .before .before .before .before .before .before .before .before .before .before .before .before .before
-    .before .before .before .before .before .if4 .taken) (omega arith) (run-both _ 8 12 refl (omega arith) (run-both _ 4 8 refl
-    (omega arith) (run-all _ 4 refl (rw (not-false (c .before .before .before .before .before .before .before .before .before
-    .before .before .before .before .before .before .undo-upper4 .result .ok) (c .before .before .before .before .before .before
-    .before .before .before .before .before .before .before .if5 .left)) at (c .before .before .before .before .before .before
-    .before .before .before .before .before .before .before .before .before .undo-upper4 .ensures .0))) (rw (not-false (c
-    .before .before .before .before .before .before .before .before .before .before .undo-upper5 .result .ok) (c .before .before
-    .before .before .before .before .before .before .if6 .left)) at (c .before .before .before .before .before .before .before
-    .before .before .before .undo-upper5 .ensures .0))) (rw (not-false (c .before .before .before .before .before .undo-upper6
-    .result .ok) (c .before .before .before .if7 .left)) at (c .before .before .before .before .before .undo-upper6 .ensures
-    .0))) (c .undo-upper7 .ensures .0)
-
-undo-upper-requires-8 : tie.Need-undo-upper-requires-8
-undo-upper-requires-8 c κs =
-    let s = c .before .before .before .before .before in
+    let s = c .before .before .before in
     let l = s .pre .0 .low in
     (s .pre .0, s .pre .1, omega arith, omega arith, refl)
 
-returns-8 : tie.Need-returns-8
-returns-8 c = run-all _ (c .before .before .before .before .before .before .args .fb .order) refl (c .undo-upper8 .ensures .0)
+returns-5 : tie.Need-returns-5
+returns-5 c =
+    let s = c .before .before .before .before in
+    undone-all 0 (s .args .fb .order) (undone-none (s .pre .0)) (c .undo-upper5 .ensures) (omega arith) refl
 
 pub undo-upper-elements-spec : {M : Type 1} → statement M
 undo-upper-elements-spec =
-    tie.close (tie.spec undo-upper-requires returns undo-upper-requires-2 returns-2 undo-upper-requires-3 returns-3
-    undo-upper-requires-4 returns-4 undo-upper-requires-5 returns-5 undo-upper-requires-6 returns-6 undo-upper-requires-7
-    returns-7 undo-upper-requires-8 returns-8)
+    tie.close
+    (tie.spec undo-upper-requires returns undo-upper-requires-2 returns-2
+    undo-upper-requires-3 returns-3 undo-upper-requires-4 returns-4 undo-upper-requires-5 returns-5)

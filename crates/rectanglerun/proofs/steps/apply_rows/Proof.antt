@@ -1,7 +1,7 @@
 -- By the kind, and none is a permutation.
 use borrow.Author.Needs.{needs}
-use Rattle.rectanglerun.proofs.steps.apply_kind.Statement.{statement}
-use Rattle.rectanglerun.proofs.steps.apply_kind.Tie as tie
+use Rattle.rectanglerun.proofs.steps.apply_rows.Statement.{statement}
+use Rattle.rectanglerun.proofs.steps.apply_rows.Tie as tie
 
 enum-told : tie.Need-enum-told
 enum-told c = search needs
@@ -34,10 +34,10 @@ enum-told-4 : tie.Need-enum-told-4
 enum-told-4 c = search needs
 
 returns-4 : tie.Need-returns-4
-returns-4 c = absurd (c .before .before .pre .0 .weighs (c .enum-told4 .given .1))
+returns-4 c = absurd (c .before .before .pre .weighs (c .enum-told4 .given .1))
 
-pub apply-kind-spec : {M : Type 1} → statement M
-apply-kind-spec =
+pub apply-rows-spec : {M : Type 1} → statement M
+apply-rows-spec =
     tie.close
     (tie.spec enum-told apply-lower-rows-requires returns enum-told-2 apply-upper-rows-requires returns-2 enum-told-3
     apply-single-rows-requires returns-3 enum-told-4 returns-4)
