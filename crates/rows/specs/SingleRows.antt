@@ -10,7 +10,7 @@ use lib.IntN.{ℤ, pos, _+ℤ_, _-ℤ_, _*ℤ_, +ℤ-idl, +ℤ-idr}
 use lib.Signed.{_≤ℤ_, _<ℤ_, shrZ}
 use lib.ListN.{length, replicate}
 use Rattle.whole.specs.Diff.{lia, lin, given₂, Within}
-use Rattle.whole.specs.Laws.{Sign, distrib, mul-left-comm, mul-add}
+use Rattle.whole.specs.Laws.{Sign, signs-times, distrib, mul-left-comm, mul-add}
 use Rattle.whole.specs.Floor.{shr-lo, shr-hi, shr-unique}
 use Rattle.whole.specs.Machine.{within-sign, within-le, within-*}
 use Rattle.whole.specs.Sum.{sum, sum-cong, sum-scale, sum-within}
@@ -26,8 +26,8 @@ use Rattle.factor.specs.Layouts.{row, rowBy, rowOf}
 use Rattle.factor.specs.LayoutInSheet.{InSheet}
 use Rattle.factor.specs.Rounding.{rounded-within}
 use Rattle.factor.specs.SumBounds.{Bounded, RowIn}
-use Rattle.joint.specs.Sums.{entriesSum, columnSums, jointSum, entries-small}
-use Rattle.joint.specs.Elements.{signAt, diagonalOf, sumsAt, roundedSum, appliedAt, undoneAt, appliedOf, undoneOf, band-at}
+use Rattle.joint.specs.Sums.{entriesSum, columnSums, jointSum}
+use Rattle.joint.specs.Elements.{signAt, diagonalOf, sumsAt, roundedSum, appliedAt, undoneAt, appliedOf, undoneOf}
 use Rattle.rows.specs.Triangles.{totalOf}
 use Rattle.rows.specs.RowsInPlace.{applied-here, undone-here}
 
@@ -74,6 +74,14 @@ pub record SignsGiven (g : List ℤ) (n : ℕ) (d : ℤ) (k : ℕ) (x : List ℤ
   pub sign : Sign d
   pub signs : (j : ℕ) → j < n → Sign (at g j)
   pub numbers : Bounded bound x
+
+-- what the sign of an element asks, and that it is one
+module _ {g : List ℤ} {n : ℕ} {d : ℤ} {k : ℕ} {x : List ℤ} (h : SignsGiven g n d k x) (j : ℕ) (l : j < n) where
+  pub sign-asks : (j < 16) × Sign d × Sign (at g j)
+  sign-asks = ((let f = h .few in omega arith), h .sign, h .signs j l)
+
+  pub both-sign : Sign (d *ℤ at g j)
+  both-sign = signs-times (h .sign) (h .signs j l)
 
 -- ---- sizes
 abbrev pub mostBeside : ℕ

@@ -11,7 +11,7 @@ use native.Mathlib.Numerals.{add-one}
 use native.Mathlib.Omega.{arith}
 use borrow.Author.Tests.{le-ltb}
 use lib.Dec.{leb}
-use lib.IntN.{ℤ, natAbs, _+ℤ_, _-ℤ_, _*ℤ_}
+use lib.IntN.{ℤ, natAbs, _+ℤ_, _*ℤ_}
 use lib.ListN.{length, set, length-set}
 use lib.Seq.{set-set}
 use Rattle.whole.specs.Diff.{Within}
@@ -20,8 +20,7 @@ use Rattle.whole.specs.Machine.{within-sign}
 use Rattle.whole.specs.Sum.{sum-cong}
 use Rattle.rules.specs.declared.Kind.the-variants.{Single}
 use Rattle.rules.specs.declared.Rule.{Rule}
-use Rattle.rules.specs.Numbers.{unit, at}
-use Rattle.rules.specs.Stages.{R}
+use Rattle.rules.specs.Numbers.{at}
 use Rattle.rules.specs.Laws.GoodStages.{Permutes}
 use Rattle.rules.specs.Laws.Membership.{true-false}
 use Rattle.rules.specs.Laws.Lists.{set-at, set-other, same-list}
@@ -34,8 +33,8 @@ use Rattle.factor.specs.InPlace.{inPlace, length-in-place, in-place-other, apar
 use Rattle.joint.specs.Sums.{entriesSum}
 use Rattle.joint.specs.Elements.{signAt, appliedOf, undoneOf}
 use Rattle.rows.specs.RowsInPlace.{Stopped, RowDone, inRow, plain}
-use Rattle.rows.specs.SingleRows.{besideSum, appliedBeside, undoneBeside, Turned}
-use Rattle.rows.specs.SingleRows.{applied-beside, undone-beside, applied-corner, undone-corner}
+use Rattle.rows.specs.SingleRows.{besideSum, undoneBeside, Turned}
+use Rattle.rows.specs.SingleRows.{undone-beside, applied-corner, undone-corner}
 
 -- ---- how a row ends, by its outcome
 module _ {most m : ℕ} {step : List ℤ → ℕ → ℤ} {q : ℕ → ℕ} {x y : List ℤ} where

@@ -2,7 +2,7 @@
 // but itself, and its one sum has a scale of 4096, since the other scale is a sign's.
 ghost use mathlib.Core.Logic.{_≢_};
 ghost use mathlib.Core.Path.{_≡_};
-ghost use Prim.Native.Nat.{_+_, _*_, _≤_, _<_};
+ghost use Prim.Native.Nat.{_+_, _*_, _<_};
 ghost use lib.IntN.{_*ℤ_};
 ghost use lib.ListN.{length};
 ghost use mir.Syntax.{w32};
@@ -107,6 +107,14 @@ fn rounded_beside(rule: Rule, w: &[i32; 16], n: usize, d: i32, k: usize, x: &[i3
     round_line(rule, turned(d, narrow_sum(w, 0, x, k, n)))
 }
 
+// The sign of the element in column j of a row of the sign d.
+fn sign_in(d: i32, g: &[i32; 16], j: usize) -> i32
+    requires { ⌜ (j < 16) × Sign d × Sign (at (now g) j) ⌝ }
+    ensures { λ r. ⌜ r ≡ d *ℤ at (now (g .entry)) j ⌝ }
+{
+    both_signs(d, g[j])
+}
+
 // What the element in column q of that row becomes, q the row of the row sheet's factor.
 fn applied_beside(
     rule: Rule,
@@ -123,7 +131,7 @@ fn applied_beside(
         (at (now (x .entry)) (k + q)) ⌝ }
 {
     applied(
-        both_signs(d, g[q]),
+        sign_in(d, g, q),
         x[k + q],
         rounded_beside(rule, w, n, d, k, x),
     )
@@ -144,7 +152,7 @@ fn undone_beside(
     requires { ⌜ SignsGiven (now g) n d k (now x) × Narrow (now w) 0 (now x) k n × (q < n) × Within bound y ⌝ }
     ensures { λ r. ⌜ r ≡ undoneBeside rule d (at (now (g .entry)) q) (narrowSum (now (w .entry)) 0 (now (x .entry)) k n) y ⌝ }
 {
-    undone(both_signs(d, g[q]), y, rounded_beside(rule, w, n, d, k, x))
+    undone(sign_in(d, g, q), y, rounded_beside(rule, w, n, d, k, x))
 }
 
 // A number of the block times a sign, which turns it. A test, unlike a product, is made for several numbers at a time.
@@ -164,7 +172,7 @@ fn turn_row(g: &[i32; 16], n: usize, d: i32, k: usize, x: &mut [i32; 256])
     ensures { λ _. ⌜ Turned (at (now (g .entry))) d k n (now (x .entry)) (now (x .exit)) ⌝ }
 {
     for j in 0..n {
-        x[k + j] = turned_number(both_signs(d, g[j]), x[k + j]);
+        x[k + j] = turned_number(sign_in(d, g, j), x[k + j]);
     }
 }
 

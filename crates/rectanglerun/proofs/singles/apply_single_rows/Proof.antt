@@ -1,5 +1,4 @@
 -- Row r is the row of turn 0 (`first-applied`), and the rows beside it are those of all later turns (`turns-last`).
-use borrow.Author.Needs.{needs}
 use borrow.Author.Tests.{not-true, not-false}
 use mathlib.Core.Path.{_≡_, refl, _∙_}
 use Prim.Native.Nat.{_<_}

@@ -1,6 +1,6 @@
 -- By the side of the row's own column on which it stands (`entry-left`, `entry-own`, `entry-right`).
 use borrow.Author.Needs.{needs}
-use mathlib.Core.Path.{_≡_, sym}
+use mathlib.Core.Path.{sym}
 use Prim.Native.Nat.{_+_, _-_, _<_}
 use native.Mathlib.Omega.{arith}
 use lib.ListN.{length}

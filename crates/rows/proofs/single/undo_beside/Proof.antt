@@ -1,5 +1,4 @@
 -- The row is turned, and the one sum is of the row as turned: what it looks at is recovered then (`undone-row`).
-use borrow.Author.Needs.{needs}
 use borrow.Author.Tests.{not-true, not-false}
 use mathlib.Core.Path.{_≡_, refl, _∙_}
 use Prim.Native.Nat.{_+_, _*_, _≤_, _<_}
