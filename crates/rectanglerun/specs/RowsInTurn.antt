@@ -128,8 +128,9 @@ rows-all {task} {rule} {c} {fa} {r} {fb} {x} e a =
     (step-goes (a .block ∙ all) (a .small), a .long)
 
 -- ---- some of the turns
--- those from a to b, which make z of the block y. Whatever block all rows began with: it is gone when they do not begin the stage
-pub record Turns (task : Task) (rule : Rule) (c : List ℤ) (fa : Layout) (r : List ℤ) (fb : Layout) (a b : ℕ) (y : List ℤ)
+-- those from a up to b make z of the block y, whatever block x there was before all rows: code that begins in the middle has it
+-- no more
+pub record TurnsDone (task : Task) (rule : Rule) (c : List ℤ) (fa : Layout) (r : List ℤ) (fb : Layout) (a b : ℕ) (y : List ℤ)
     (ok : Bool) (z : List ℤ) : Type 0 where
   pub through : ok ≡ true → {x : List ℤ} → Weighable task c fa r fb x → Rows task rule c fa r fb x a y →
       Rows task rule c fa r fb x b z
@@ -137,20 +138,20 @@ pub record Turns (task : Task) (rule : Rule) (c : List ℤ) (fa : Layout) (r : L
       Weighed task rule c fa r fb x ok z
 
 module _ {task : Task} {rule : Rule} {c : List ℤ} {fa : Layout} {r : List ℤ} {fb : Layout} {a : ℕ} {y : List ℤ} where
-  pub no-turns : Turns task rule c fa r fb a a y true y
+  pub no-turns : TurnsDone task rule c fa r fb a a y true y
   no-turns = record { through = λ _ h k. k; stopped = λ e. absurd (true-false refl e) }
 
   -- the row of turn s after them
-  module _ {s i : ℕ} {u z : List ℤ} {ok : Bool} (t : Turns task rule c fa r fb a s y true u) (l : s < fa .order)
+  module _ {s i : ℕ} {u z : List ℤ} {ok : Bool} (t : TurnsDone task rule c fa r fb a s y true u) (l : s < fa .order)
       (e : i ≡ nthRow task fa s)
       (w : RowDone (limitOf task) (elementOf task rule c fa r fb u) (rowOrder task fb i) (fb .order) u z ok) where
-    pub turns-more : ok ≡ true → Turns task rule c fa r fb a (s + 1) y true z
+    pub turns-more : ok ≡ true → TurnsDone task rule c fa r fb a (s + 1) y true z
     turns-more o = record {
       through = λ _ h k. row-more h l (t .through refl h k) e w o;
       stopped = λ f. absurd (true-false refl f);
     }
 
-    pub turns-stop : {b : ℕ} → ok ≡ false → Turns task rule c fa r fb a b y ok z
+    pub turns-stop : {b : ℕ} → ok ≡ false → TurnsDone task rule c fa r fb a b y ok z
     turns-stop o = record {
       through = λ f. absurd (true-false f o);
       stopped = λ _ h k. row-stops h l (t .through refl h k) e w o;
@@ -159,7 +160,7 @@ module _ {task : Task} {rule : Rule} {c : List ℤ} {fa : Layout} {r : List ℤ}
 -- ---- how all turns end: after the turns from a on, or the row of the last one
 module _ {task : Task} {rule : Rule} {c : List ℤ} {fa : Layout} {r : List ℤ} {fb : Layout} {x y z : List ℤ}
     (h : Weighable task c fa r fb x) where
-  pub turns-last : {a : ℕ} {ok : Bool} → Rows task rule c fa r fb x a y → Turns task rule c fa r fb a (fa .order) y ok z →
+  pub turns-last : {a : ℕ} {ok : Bool} → Rows task rule c fa r fb x a y → TurnsDone task rule c fa r fb a (fa .order) y ok z →
       Weighed task rule c fa r fb x ok z
   turns-last {ok = true} k t = rows-all refl (t .through refl h k)
   turns-last {ok = false} k t = t .stopped refl h k

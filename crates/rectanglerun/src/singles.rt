@@ -4,7 +4,7 @@ ghost use Prim.Native.Nat.{_-_, _<_};
 ghost use Rattle.rules.specs.declared.Kind.the-variants.{Single};
 ghost use Rattle.factor.specs.UndoingOrder.{nthUndone};
 ghost use Rattle.rows.specs.LaidRows.{Laid};
-ghost use Rattle.rectanglerun.specs.RowsInTurn.{Weighable, Weighed, Turns};
+ghost use Rattle.rectanglerun.specs.RowsInTurn.{Weighable, Weighed, TurnsDone};
 use factor::Layout;
 use factor::run::Outcome;
 use factor::run::Task;
@@ -44,7 +44,7 @@ fn apply_rows_beside(
 ) -> Outcome
     requires { ⌜ Weighable Task.Forward (now col) fa (now row) fb (now x) × (fb .kind ≡ Single)
         × Laid (now row) fb n (now g) (now w) ⌝ }
-    ensures { λ r. ⌜ Turns Task.Forward rule (now (col .entry)) fa (now (row .entry)) fb 1 (fa .order) (now (x .entry))
+    ensures { λ r. ⌜ TurnsDone Task.Forward rule (now (col .entry)) fa (now (row .entry)) fb 1 (fa .order) (now (x .entry))
         (r .ok) (now (x .exit)) ⌝ }
 {
     let m = fa.order;
@@ -71,7 +71,7 @@ fn apply_all_beside(
 ) -> Outcome
     requires { ⌜ Weighable Task.Forward (now col) fa (now row) fb (now x) × (fb .kind ≡ Single)
         × Laid (now row) fb (fb .order) (now g) (now w) ⌝ }
-    ensures { λ r. ⌜ Turns Task.Forward rule (now (col .entry)) fa (now (row .entry)) fb 1 (fa .order) (now (x .entry))
+    ensures { λ r. ⌜ TurnsDone Task.Forward rule (now (col .entry)) fa (now (row .entry)) fb 1 (fa .order) (now (x .entry))
         (r .ok) (now (x .exit)) ⌝ }
 {
     let n = fb.order;
@@ -121,7 +121,7 @@ fn undo_rows_beside(
 ) -> Outcome
     requires { ⌜ Weighable Task.Inverse (now col) fa (now row) fb (now x) × (fb .kind ≡ Single)
         × Laid (now row) fb n (now g) (now w) ⌝ }
-    ensures { λ r. ⌜ Turns Task.Inverse rule (now (col .entry)) fa (now (row .entry)) fb 0 (fa .order - 1) (now (x .entry))
+    ensures { λ r. ⌜ TurnsDone Task.Inverse rule (now (col .entry)) fa (now (row .entry)) fb 0 (fa .order - 1) (now (x .entry))
         (r .ok) (now (x .exit)) ⌝ }
 {
     let m = fa.order;
@@ -148,7 +148,7 @@ fn undo_all_beside(
 ) -> Outcome
     requires { ⌜ Weighable Task.Inverse (now col) fa (now row) fb (now x) × (fb .kind ≡ Single)
         × Laid (now row) fb (fb .order) (now g) (now w) ⌝ }
-    ensures { λ r. ⌜ Turns Task.Inverse rule (now (col .entry)) fa (now (row .entry)) fb 0 (fa .order - 1) (now (x .entry))
+    ensures { λ r. ⌜ TurnsDone Task.Inverse rule (now (col .entry)) fa (now (row .entry)) fb 0 (fa .order - 1) (now (x .entry))
         (r .ok) (now (x .exit)) ⌝ }
 {
     let n = fb.order;

@@ -1,12 +1,11 @@
--- THE ROW SHEET'S SIGNS AND ITS ONE ROW OF ENTRIES LAID OUT by columns, once a stage: the row's own column has the entry 0, so that
--- a row of the block beside the one with entries has one sum (`laid-sum`), and its own number is no part of it.
+-- THE ROW SHEET'S SIGNS AND ITS ONE ROW OF ENTRIES LAID OUT by columns, once a stage: the row's own column has the entry 0, so
+-- that a row of the block beside the one with entries has one sum (`laid-sum`), and its own number is no part of it.
 use mathlib.Core.Bool.{cond}
 use mathlib.Core.List.{List}
 use mathlib.Core.Logic.{_≢_}
 use mathlib.Core.Path.{_≡_, refl, sym, ap, ap₂, _∙_}
 use Prim.Native.Nat.{ℕ, suc, _+_, _-_, _*_, _≤_, _<_}
 use native.Mathlib.Decide.{ℕ-discrete, decLt}
-use native.Mathlib.Nat.{zero-add}
 use native.Mathlib.Omega.{arith}
 use borrow.Author.Tests.{eq-eqb, ne-eqb, lt-ltb, le-ltb}
 use lib.Dec.{ltb, eqb}
@@ -19,7 +18,7 @@ use Rattle.rules.specs.declared.Kind.the-variants.{Single}
 use Rattle.rules.specs.declared.Rule.{Rule}
 use Rattle.rules.specs.Numbers.{mostEntry, bound, at}
 use Rattle.rules.specs.Stages.{fill}
-use Rattle.rules.specs.Laws.Lists.{fill-at, length-fill}
+use Rattle.rules.specs.Laws.Lists.{fill-at}
 use Rattle.factor.specs.declared.Layout.{Layout}
 use Rattle.factor.specs.Layouts.{row, rowBy, rowOf}
 use Rattle.factor.specs.LayoutInSheet.{InSheet}
@@ -27,7 +26,8 @@ use Rattle.factor.specs.SumBounds.{Bounded, RowIn}
 use Rattle.joint.specs.Sums.{entriesSum}
 use Rattle.joint.specs.Elements.{signAt, appliedOf}
 use Rattle.rows.specs.RowsInPlace.{RowAsks, in-block}
-use Rattle.rows.specs.SingleRows.{besideSum, narrowSum, appliedBeside, undoneBeside, Turned, Narrow, SignsGiven, applied-beside}
+use Rattle.rows.specs.SingleRows.{besideSum, narrowSum, appliedBeside, undoneBeside, Turned, Narrow, SignsGiven}
+use Rattle.rows.specs.SingleRows.{applied-beside}
 
 -- ---- definitions
 -- the entry in column j of a factor's one row, and 0 in the row's own column
@@ -92,10 +92,10 @@ module _ {s : List ℤ} {f : Layout} {n : ℕ} {g w : List ℤ} (laid : Laid s f
 
   -- one sum over all columns is the two runs of the row's entries
   pub laid-sum : f .kind ≡ Single → f .row < f .order → (k : ℕ) (x : List ℤ) →
-      narrowSum w 0 x k n ≡ besideSum s f (f .row) k x
+      narrowSum w x k n ≡ besideSum s f (f .row) k x
   unfolding besideSum entriesSum
   laid-sum single low k x =
-      sum-cong n _ _ (λ j l. rw (zero-add, laid-entry j l))
+      sum-cong n _ _ (λ j l. rw (laid-entry j l))
       ∙ ap (λ (m : ℕ). sum m term) (let e = laid .order in omega arith)
       ∙ sum-split q (suc r) term
       ∙ ap₂ _+ℤ_ left (sum-first r (λ j. term (q + j)) ∙ ap₂ _+ℤ_ own right ∙ +ℤ-idl after)
@@ -147,12 +147,11 @@ module _ {c : List ℤ} {fa : Layout} {s : List ℤ} {fb : Layout} {i : ℕ} {x 
     numbers = b;
   }
 
-  pub laid-narrow : fb .kind ≡ Single → {y : List ℤ} → Bounded bound y → Narrow w 0 y (i * n) n
+  pub laid-narrow : fb .kind ≡ Single → {y : List ℤ} → Bounded bound y → Narrow w y (i * n) n
   laid-narrow single b = record {
     few = rw (laid .order) (a .row .order);
-    room = rw (laid .entries, length-fill) (let o = a .row .order in let e = laid .order in omega arith);
     places = laid-room;
-    entries = λ j l. rw (zero-add, laid-entry laid (a .row) j l)
+    entries = λ j l. rw (laid-entry laid (a .row) j l)
         (entry-small (a .row) single (a .low) j (let e = laid .order in omega arith));
     numbers = b;
   }
@@ -169,14 +168,14 @@ module _ {c : List ℤ} {fa : Layout} {s : List ℤ} {fb : Layout} {i : ℕ} {x 
   -- the element in column q, where no other row has entries
   module _ (rule : Rule) (single : fb .kind ≡ Single) where
     pub applied-laid : i ≢ fa .row →
-        appliedBeside rule (signAt c fa i) (at g (fb .row)) (narrowSum w 0 x (i * n) n) (at x (i * n + fb .row))
+        appliedBeside rule (signAt c fa i) (at g (fb .row)) (narrowSum w x (i * n) n) (at x (i * n + fb .row))
         ≡ appliedOf rule c fa s fb x (i * fb .order + fb .row)
     applied-laid beside =
         rw (laid-sign laid (a .row) (fb .row) laid-column, laid-sum laid (a .row) single (a .low), laid .order)
         (sym (applied-beside c fa i (a .alike ∙ single) beside (a .row) x (fb .row) (a .low) rule))
 
     pub undone-laid : (y z : List ℤ) →
-        undoneBeside rule (signAt c fa i) (at g (fb .row)) (narrowSum w 0 z (i * n) n) (at y (i * n + fb .row))
+        undoneBeside rule (signAt c fa i) (at g (fb .row)) (narrowSum w z (i * n) n) (at y (i * n + fb .row))
         ≡ undoneBeside rule (signAt c fa i) (signAt s fb (fb .row)) (besideSum s fb (fb .row) (i * fb .order) z)
         (at y (i * fb .order + fb .row))
     undone-laid y z =

@@ -36,9 +36,9 @@ use Rattle.rows.specs.RowsInPlace.{applied-here, undone-here}
 unfoldable pub besideSum : List ℤ → Layout → ℕ → ℕ → List ℤ → ℤ
 besideSum s f j k x = entriesSum s (rowOf f j) j (λ l. at x (k + l))
 
--- m numbers of a from place p on, each times a number of the block from place k on
-abbrev pub narrowSum : List ℤ → ℕ → List ℤ → ℕ → ℕ → ℤ
-narrowSum a p x k m = sum m (λ j. at a (p + j) *ℤ at x (k + j))
+-- n entries, each times a number of the block from place k on
+abbrev pub narrowSum : List ℤ → List ℤ → ℕ → ℕ → ℤ
+narrowSum w x k n = sum n (λ j. at w j *ℤ at x (k + j))
 
 -- an element of the number z that looks at its row alone, t its sum, d the sign of its row and e that of its column; undone, it
 -- is z now
@@ -59,12 +59,11 @@ abbrev pub OneRow : Layout → Type 0
 OneRow f = (m : ℕ) → m ≢ f .row → rowOf f m ≡ row (f .entries) 0 0
 
 -- ---- what the code asks
--- m entries of a from place p on, and numbers of the block from place k on
-pub record Narrow (a : List ℤ) (p : ℕ) (x : List ℤ) (k m : ℕ) : Type 0 where
-  pub few : m ≤ 16
-  pub room : p + m ≤ length a
-  pub places : k + m ≤ 256
-  pub entries : (j : ℕ) → j < m → Within mostEntry (at a (p + j))
+-- n entries, and numbers of the block from place k on
+pub record Narrow (w x : List ℤ) (k n : ℕ) : Type 0 where
+  pub few : n ≤ 16
+  pub places : k + n ≤ 256
+  pub entries : (j : ℕ) → j < n → Within mostEntry (at w j)
   pub numbers : Bounded bound x
 
 -- the signs g of n columns, and the block's row from place k on, whose sign is d
@@ -87,18 +86,18 @@ module _ {g : List ℤ} {n : ℕ} {d : ℤ} {k : ℕ} {x : List ℤ} (h : SignsG
 abbrev pub mostBeside : ℕ
 mostBeside = 16 * (mostEntry * bound)
 
-pub narrow-small : {a x : List ℤ} {p k m : ℕ} → Narrow a p x k m → (i : ℕ) → i ≤ m → Within mostBeside (narrowSum a p x k i)
-narrow-small {m} t i l =
+pub narrow-small : {w x : List ℤ} {k n : ℕ} → Narrow w x k n → (i : ℕ) → i ≤ n → Within mostBeside (narrowSum w x k i)
+narrow-small {n} t i l =
     let h = t .few in
     within-le (omega (arith, NatL.mul-le-mul-right (mostEntry * bound) (NatL.le-trans l h)))
     (sum-within i _ (λ j b. within-* (t .entries j (omega arith)) (t .numbers .small _)))
 
 -- the whole sum, times a sign, and rounded
-module _ {a x : List ℤ} {p k m : ℕ} {d : ℤ} (t : Narrow a p x k m) (g : Sign d) where
-  pub turned-sum-small : Within mostBeside (d *ℤ narrowSum a p x k m)
-  turned-sum-small = within-sign g (narrow-small t m (NatL.le-refl m))
+module _ {w x : List ℤ} {k n : ℕ} {d : ℤ} (t : Narrow w x k n) (g : Sign d) where
+  pub turned-sum-small : Within mostBeside (d *ℤ narrowSum w x k n)
+  turned-sum-small = within-sign g (narrow-small t n (NatL.le-refl n))
 
-  pub rounded-sum-small : (rule : Rule) → Within (mostBeside + 2048) (R rule unit (d *ℤ narrowSum a p x k m))
+  pub rounded-sum-small : (rule : Rule) → Within (mostBeside + 2048) (R rule unit (d *ℤ narrowSum w x k n))
   rounded-sum-small rule = rounded-within rule unit turned-sum-small
 
 -- ---- a sum of one scale rounds as that of two

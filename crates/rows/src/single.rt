@@ -59,8 +59,8 @@ fn entry_in(row: &[i32], f: Layout, j: usize) -> i32
     row[entries + (j - 1)]
 }
 
-// That row laid out by columns. The row's own number stands in no product then, and the others are one sum and not two, so that
-// the compiler knows its length.
+// That row laid out by columns. With it a row of the block has one sum over all its columns, in place of two whose lengths are
+// known late, and the number in the row's own column is no part of it.
 pub fn lay_entries(row: &[i32], f: Layout) -> [i32; 16]
     requires { ⌜ InSheet (now row) f × (f .kind ≡ Single) × (f .row < f .order) ⌝ }
     ensures { λ r. ⌜ r ≡ entriesLaid (now (row .entry)) f ⌝ }
@@ -73,7 +73,7 @@ pub fn lay_entries(row: &[i32], f: Layout) -> [i32; 16]
     w
 }
 
-// The signs of the columns, laid out. From an array the compiler reads several at a time.
+// The signs of the columns, laid out: from an array of its own the compiler reads several at a time.
 pub fn lay_signs(row: &[i32], f: Layout) -> [i32; 16]
     requires { ⌜ InSheet (now row) f ⌝ }
     ensures { λ r. ⌜ r ≡ signsLaid (now (row .entry)) f ⌝ }
@@ -86,25 +86,24 @@ pub fn lay_signs(row: &[i32], f: Layout) -> [i32; 16]
     g
 }
 
-// The m numbers of a from place p on, each times a number of the block from place k on.
-fn narrow_sum(a: &[i32], p: usize, x: &[i32; 256], k: usize, m: usize) -> i64
-    requires { ⌜ Narrow (now a) p (now x) k m ⌝ }
-    ensures { λ s. ⌜ s ≡ narrowSum (now (a .entry)) p (now (x .entry)) k m ⌝ }
+// The first n entries of w, each times its number of the block's row that starts at place k.
+fn narrow_sum(w: &[i32; 16], x: &[i32; 256], k: usize, n: usize) -> i64
+    requires { ⌜ Narrow (now w) (now x) k n ⌝ }
+    ensures { λ s. ⌜ s ≡ narrowSum (now (w .entry)) (now (x .entry)) k n ⌝ }
 {
     let mut sum: i64 = 0;
-    for j in 0..m {
-        sum = with_term(sum, a[p + j], x[k + j]);
+    for j in 0..n {
+        sum = with_term(sum, w[j], x[k + j]);
     }
     sum
 }
 
-// The entries w, each times its number of the block's row that starts at place k, as the element looks at them: times the sign of
-// that row, and rounded.
+// The same as the element looks at it: times the sign of the block's row, and rounded.
 fn rounded_beside(rule: Rule, w: &[i32; 16], n: usize, d: i32, k: usize, x: &[i32; 256]) -> i64
-    requires { ⌜ Narrow (now w) 0 (now x) k n × Sign d ⌝ }
-    ensures { λ r. ⌜ r ≡ R rule unit (d *ℤ narrowSum (now (w .entry)) 0 (now (x .entry)) k n) ⌝ }
+    requires { ⌜ Narrow (now w) (now x) k n × Sign d ⌝ }
+    ensures { λ r. ⌜ r ≡ R rule unit (d *ℤ narrowSum (now (w .entry)) (now (x .entry)) k n) ⌝ }
 {
-    round_line(rule, turned(d, narrow_sum(w, 0, x, k, n)))
+    round_line(rule, turned(d, narrow_sum(w, x, k, n)))
 }
 
 // The sign of the element in column j of a row of the sign d.
@@ -126,8 +125,8 @@ fn applied_beside(
     k: usize,
     x: &[i32; 256],
 ) -> i64
-    requires { ⌜ SignsGiven (now g) n d k (now x) × Narrow (now w) 0 (now x) k n × (q < n) ⌝ }
-    ensures { λ r. ⌜ r ≡ appliedBeside rule d (at (now (g .entry)) q) (narrowSum (now (w .entry)) 0 (now (x .entry)) k n)
+    requires { ⌜ SignsGiven (now g) n d k (now x) × Narrow (now w) (now x) k n × (q < n) ⌝ }
+    ensures { λ r. ⌜ r ≡ appliedBeside rule d (at (now (g .entry)) q) (narrowSum (now (w .entry)) (now (x .entry)) k n)
         (at (now (x .entry)) (k + q)) ⌝ }
 {
     applied(
@@ -149,13 +148,14 @@ fn undone_beside(
     y: i32,
     x: &[i32; 256],
 ) -> i64
-    requires { ⌜ SignsGiven (now g) n d k (now x) × Narrow (now w) 0 (now x) k n × (q < n) × Within bound y ⌝ }
-    ensures { λ r. ⌜ r ≡ undoneBeside rule d (at (now (g .entry)) q) (narrowSum (now (w .entry)) 0 (now (x .entry)) k n) y ⌝ }
+    requires { ⌜ SignsGiven (now g) n d k (now x) × Narrow (now w) (now x) k n × (q < n) × Within bound y ⌝ }
+    ensures { λ r. ⌜ r ≡ undoneBeside rule d (at (now (g .entry)) q) (narrowSum (now (w .entry)) (now (x .entry)) k n) y ⌝ }
 {
     undone(sign_in(d, g, q), y, rounded_beside(rule, w, n, d, k, x))
 }
 
-// A number of the block times a sign, which turns it. A test, unlike a product, is made for several numbers at a time.
+// A number of the block times a sign, which turns it. The compiler tests several signs at a time; for as many products the
+// baseline machine has no instruction.
 fn turned_number(s: i32, x: i32) -> i32
     requires { ⌜ Sign s × SFits w32 (s *ℤ x) ⌝ }
     ensures { λ r. ⌜ r ≡ s *ℤ x ⌝ }

@@ -9,14 +9,14 @@ use Rattle.factor.specs.declared.run.Task.the-variants.{Forward}
 use Rattle.factor.specs.Tasks.{limitOf}
 use Rattle.rows.specs.RowsInPlace.{elementOf, rowOrder}
 use Rattle.rows.specs.SingleRowsInPlace.{early-undone}
-use Rattle.rectanglerun.specs.RowsInTurn.{Weighable, Turns, turn-below, still, asks, no-turns, turns-more, turns-stop}
+use Rattle.rectanglerun.specs.RowsInTurn.{Weighable, TurnsDone, turn-below, still, asks, no-turns, turns-more, turns-stop}
 use Rattle.rectanglerun.specs.UndoingOrder.{nthRow, single-applied}
 use Rattle.rectanglerun.proofs.singles.apply_rows_beside.Statement.{statement}
 use Rattle.rectanglerun.proofs.singles.apply_rows_beside.Tie as tie
 
 abbrev Inv-loop : tie.InvT-loop
 Inv-loop rule col fa row fb n g w x₀ m s₀ x s =
-    (1 ≤ s) × (s ≤ m) × Weighable Forward col fa row fb x × Turns Forward rule col fa row fb 1 s x₀ true x
+    (1 ≤ s) × (s ≤ m) × Weighable Forward col fa row fb x × TurnsDone Forward rule col fa row fb 1 s x₀ true x
 
 abbrev μ-loop : tie.MeasureT-loop
 μ-loop rule col fa row fb n g w x₀ m s₀ x s = m - s
@@ -48,7 +48,8 @@ beside c =
     let f = t .before .args .fa in
     let a = t .loop .inv .0 in
     let b = c .before .loop-test .taken in
-    rw (c .nth-single .ensures) (early-undone (f .order) (f .row) (f .order - 1 - t .loop .s) (t .before .pre .0 .low1) (omega arith))
+    rw (c .nth-single .ensures)
+    (early-undone (f .order) (f .row) (f .order - 1 - t .loop .s) (t .before .pre .0 .low1) (omega arith))
 
 apply-beside-requires : tie.Need-apply-beside-requires Inv-loop μ-loop
 unfolding limitOf

@@ -9,14 +9,14 @@ use Rattle.factor.specs.declared.run.Task.the-variants.{Inverse}
 use Rattle.factor.specs.Tasks.{limitOf}
 use Rattle.rows.specs.RowsInPlace.{elementOf, rowOrder}
 use Rattle.rows.specs.SingleRowsInPlace.{early-undone}
-use Rattle.rectanglerun.specs.RowsInTurn.{Weighable, Turns, turn-below, still, asks, no-turns, turns-more, turns-stop}
+use Rattle.rectanglerun.specs.RowsInTurn.{Weighable, TurnsDone, turn-below, still, asks, no-turns, turns-more, turns-stop}
 use Rattle.rectanglerun.specs.UndoingOrder.{nthRow, single-undone}
 use Rattle.rectanglerun.proofs.singles.undo_rows_beside.Statement.{statement}
 use Rattle.rectanglerun.proofs.singles.undo_rows_beside.Tie as tie
 
 abbrev Inv-loop : tie.InvT-loop
 Inv-loop rule col fa row fb n g w x₀ m s₀ s-end x s =
-    (s ≤ s-end) × Weighable Inverse col fa row fb x × Turns Inverse rule col fa row fb 0 s x₀ true x
+    (s ≤ s-end) × Weighable Inverse col fa row fb x × TurnsDone Inverse rule col fa row fb 0 s x₀ true x
 
 abbrev μ-loop : tie.MeasureT-loop
 μ-loop rule col fa row fb n g w x₀ m s₀ s-end x s = s-end - s
@@ -64,7 +64,8 @@ unfolding limitOf elementOf rowOrder
 returns c =
     let r = c .before .before in
     let i = r .before .before in
-    turns-stop (i .before .before .loop .inv .2) (below (i .before)) (turn i) (r .undo-beside .ensures) (not-true _ (c .if1 .taken))
+    turns-stop (i .before .before .loop .inv .2) (below (i .before)) (turn i) (r .undo-beside .ensures)
+    (not-true _ (c .if1 .taken))
 
 add-s : tie.Need-add-s Inv-loop μ-loop
 add-s c = omega arith

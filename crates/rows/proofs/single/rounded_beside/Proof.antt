@@ -14,28 +14,28 @@ use Rattle.rows.proofs.single.rounded_beside.Tie as tie
 narrow-sum-requires : tie.Need-narrow-sum-requires
 narrow-sum-requires c κs = search needs
 
-sum-is : (c : tie.After-narrow-sum) → let s = c .before .before in
-    toZ w64 (ofZ w64 (c .narrow-sum .result)) ≡ narrowSum (s .args .w .now) 0 (s .args .x .now) (s .args .k) (s .args .n)
+sum-is : (c : tie.After-narrow-sum) → let s = c .before in
+    toZ w64 (ofZ w64 (c .narrow-sum .result)) ≡ narrowSum (s .args .w .now) (s .args .x .now) (s .args .k) (s .args .n)
 sum-is c = back w64 _ (c .narrow-sum .ok) ∙ c .narrow-sum .ensures
 
 turned-requires : tie.Need-turned-requires
 turned-requires c κs =
-    let s = c .before .before in
+    let s = c .before in
     let e = toZ-ofZ (s .fits .d) in (
       subst Sign (sym e) (s .pre .1),
       subst (SFits w64) (sym (ap₂ _*ℤ_ e (sum-is c))) (fits (turned-sum-small (s .pre .0) (s .pre .1)) tt),
     )
 
-value : (c : tie.After-turned) → let s = c .before .before .before in
+value : (c : tie.After-turned) → let s = c .before .before in
     toZ w64 (ofZ w64 (c .turned .result))
-    ≡ s .args .d *ℤ narrowSum (s .args .w .now) 0 (s .args .x .now) (s .args .k) (s .args .n)
+    ≡ s .args .d *ℤ narrowSum (s .args .w .now) (s .args .x .now) (s .args .k) (s .args .n)
 value c =
     back w64 _ (c .turned .ok) ∙ c .turned .ensures
-    ∙ ap₂ _*ℤ_ (toZ-ofZ (c .before .before .before .fits .d)) (sum-is (c .before))
+    ∙ ap₂ _*ℤ_ (toZ-ofZ (c .before .before .fits .d)) (sum-is (c .before))
 
 round-line-requires : tie.Need-round-line-requires
 round-line-requires c κs =
-    let s = c .before .before .before in
+    let s = c .before .before in
     let a = s .pre .0 in
     let g = s .pre .1 in
     rw (value c) (fits (within-+ (turned-sum-small a g) (within-pos 2048)) tt, fits (rounded-sum-small a g (s .args .rule)) tt)

@@ -27,7 +27,7 @@ rounded-beside-requires c κs = let s = c .before in rw (toZ-ofZ (s .fits .d)) (
 
 rounded : (c : tie.After-rounded-beside) → let s = c .before .before in
     toZ w64 (ofZ w64 (c .rounded-beside .result))
-    ≡ R (s .args .rule) unit (s .args .d *ℤ narrowSum (s .args .w .now) 0 (s .args .x .now) (s .args .k) (s .args .n))
+    ≡ R (s .args .rule) unit (s .args .d *ℤ narrowSum (s .args .w .now) (s .args .x .now) (s .args .k) (s .args .n))
 rounded c =
     back w64 _ (c .rounded-beside .ok) ∙ c .rounded-beside .ensures ∙ rw (toZ-ofZ (c .before .before .fits .d))
 
