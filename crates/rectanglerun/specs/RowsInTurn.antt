@@ -12,6 +12,7 @@ use lib.ListN.{length}
 use Rattle.rules.specs.declared.Kind.the-variants.{Permutation}
 use Rattle.rules.specs.declared.Rule.{Rule}
 use Rattle.rules.specs.Numbers.{bound}
+use Rattle.rules.specs.Laws.Membership.{true-false}
 use Rattle.factor.specs.declared.Layout.{Layout}
 use Rattle.factor.specs.declared.run.Task.{Task}
 use Rattle.factor.specs.Tasks.{limitOf}
@@ -54,19 +55,36 @@ module _ {task : Task} {c : List ℤ} {fa : Layout} {r : List ℤ} {fb : Layout}
   pub no-rows : {rule : Rule} → Rows task rule c fa r fb x 0 x
   no-rows = record { block = no-row _ _ _ _; small = h .small; long = h .long }
 
-  -- what the row of turn s asks
-  pub row-asks : {rule : Rule} {s i : ℕ} {y : List ℤ} → s < fa .order → i ≡ nthRow task fa s → limitOf task ≡ bound →
-      Rows task rule c fa r fb x s y → RowAsks c fa r fb i y
-  row-asks l e b a = record {
+  -- rows leave a block of which the next ones ask the same
+  pub still : {y : List ℤ} → Bounded (limitOf task) y → length y ≡ 256 → Weighable task c fa r fb y
+  still b l = record {
     column = h .column;
     row = h .row;
-    below = turn-below l e;
+    low1 = h .low1;
+    low2 = h .low2;
+    alike = h .alike;
+    weighs = h .weighs;
+    small = b;
+    long = l;
+  }
+
+  pub asks : {i : ℕ} → i < fa .order → limitOf task ≡ bound → RowAsks c fa r fb i x
+  asks l b = record {
+    column = h .column;
+    row = h .row;
+    below = l;
     low = h .low2;
-    small = rw b at (a .small);
-    long = a .long;
+    small = rw b at (h .small);
+    long = h .long;
     alike = h .alike;
     weighs = h .weighs;
   }
+
+module _ {task : Task} {c : List ℤ} {fa : Layout} {r : List ℤ} {fb : Layout} {x : List ℤ} (h : Weighable task c fa r fb x) where
+  -- what the row of turn s asks
+  pub row-asks : {rule : Rule} {s i : ℕ} {y : List ℤ} → s < fa .order → i ≡ nthRow task fa s → limitOf task ≡ bound →
+      Rows task rule c fa r fb x s y → RowAsks c fa r fb i y
+  row-asks l e b a = asks (still h (a .small) (a .long)) (turn-below h l e) b
 
   -- the row of turn s, made from the block y as it stands
   module _ {rule : Rule} {s i : ℕ} {y z : List ℤ} {ok : Bool} (l : s < fa .order) (a : Rows task rule c fa r fb x s y)
@@ -108,3 +126,47 @@ pub rows-all :
 rows-all {task} {rule} {c} {fa} {r} {fb} {x} e a =
     let all = ap (λ (k : ℕ). inPlace (elementOf task rule c fa r fb x) (pairOrder task fa fb) (k * fb .order) x) e in
     (step-goes (a .block ∙ all) (a .small), a .long)
+
+-- ---- some of the turns
+-- those from a up to b make z of the block y, whatever block x there was before all rows: code that begins in the middle has it
+-- no more
+pub record TurnsDone (task : Task) (rule : Rule) (c : List ℤ) (fa : Layout) (r : List ℤ) (fb : Layout) (a b : ℕ) (y : List ℤ)
+    (ok : Bool) (z : List ℤ) : Type 0 where
+  pub through : ok ≡ true → {x : List ℤ} → Weighable task c fa r fb x → Rows task rule c fa r fb x a y →
+      Rows task rule c fa r fb x b z
+  pub stopped : ok ≡ false → {x : List ℤ} → Weighable task c fa r fb x → Rows task rule c fa r fb x a y →
+      Weighed task rule c fa r fb x ok z
+
+module _ {task : Task} {rule : Rule} {c : List ℤ} {fa : Layout} {r : List ℤ} {fb : Layout} {a : ℕ} {y : List ℤ} where
+  pub no-turns : TurnsDone task rule c fa r fb a a y true y
+  no-turns = record { through = λ _ h k. k; stopped = λ e. absurd (true-false refl e) }
+
+  -- the row of turn s after them
+  module _ {s i : ℕ} {u z : List ℤ} {ok : Bool} (t : TurnsDone task rule c fa r fb a s y true u) (l : s < fa .order)
+      (e : i ≡ nthRow task fa s)
+      (w : RowDone (limitOf task) (elementOf task rule c fa r fb u) (rowOrder task fb i) (fb .order) u z ok) where
+    pub turns-more : ok ≡ true → TurnsDone task rule c fa r fb a (s + 1) y true z
+    turns-more o = record {
+      through = λ _ h k. row-more h l (t .through refl h k) e w o;
+      stopped = λ f. absurd (true-false refl f);
+    }
+
+    pub turns-stop : {b : ℕ} → ok ≡ false → TurnsDone task rule c fa r fb a b y ok z
+    turns-stop o = record {
+      through = λ f. absurd (true-false f o);
+      stopped = λ _ h k. row-stops h l (t .through refl h k) e w o;
+    }
+
+-- ---- how all turns end: after the turns from a on, or the row of the last one
+module _ {task : Task} {rule : Rule} {c : List ℤ} {fa : Layout} {r : List ℤ} {fb : Layout} {x y z : List ℤ}
+    (h : Weighable task c fa r fb x) where
+  pub turns-last : {a : ℕ} {ok : Bool} → Rows task rule c fa r fb x a y → TurnsDone task rule c fa r fb a (fa .order) y ok z →
+      Weighed task rule c fa r fb x ok z
+  turns-last {ok = true} k t = rows-all refl (t .through refl h k)
+  turns-last {ok = false} k t = t .stopped refl h k
+
+  pub row-last : {s i : ℕ} {ok : Bool} → s + 1 ≡ fa .order → Rows task rule c fa r fb x s y → i ≡ nthRow task fa s →
+      RowDone (limitOf task) (elementOf task rule c fa r fb y) (rowOrder task fb i) (fb .order) y z ok →
+      Weighed task rule c fa r fb x ok z
+  row-last {ok = true} n k e w = rows-all n (row-more h (omega arith) k e w refl)
+  row-last {ok = false} n k e w = row-stops h (omega arith) k e w refl

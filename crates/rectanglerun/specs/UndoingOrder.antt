@@ -10,7 +10,7 @@ use native.Mathlib.Nat as NatL
 use native.Mathlib.Omega.{arith}
 use lib.IntN.{ℤ}
 use Rattle.rules.specs.declared.Rule.{Rule}
-use Rattle.rules.specs.declared.Kind.the-variants.{Lower, Upper}
+use Rattle.rules.specs.declared.Kind.the-variants.{Lower, Upper, Single}
 use Rattle.rules.specs.Numbers.{at}
 use Rattle.rules.specs.Shapes.{order}
 use Rattle.rules.specs.Laws.GoodStages.{Permutes, same-permutes}
@@ -25,6 +25,7 @@ use Rattle.factor.specs.UndoingOrder.{nthUndone, undoing-permutes, undoing-reve
 use Rattle.factor.specs.InPlace.{inPlace, in-place-other}
 use Rattle.joint.specs.Sums.{SameRows}
 use Rattle.rows.specs.RowsInPlace.{rowOrder, elementOf}
+use Rattle.rows.specs.SingleRowsInPlace.{last-undone}
 
 abbrev pub nthUndonePair : Layout → Layout → ℕ → ℕ
 nthUndonePair f g t =
@@ -114,6 +115,25 @@ module _ (f : Layout) (s : ℕ) where
   pub upper-undone : f .kind ≡ Upper → s < f .order → f .order - 1 - s ≡ nthRow Inverse f s
   unfolding nthRow isInverse nthUndone
   upper-undone e l = rw e (omega arith)
+
+-- the rows of a single-row factor in turn: applied, its row comes first, and undone, last
+module _ (f : Layout) (e : f .kind ≡ Single) where
+  pub single-applied : (s : ℕ) → s < f .order → nthUndone Single (f .order) (f .row) (f .order - 1 - s) ≡ nthRow Forward f s
+  unfolding nthRow isInverse
+  single-applied s l = let z : f .order - 1 - s ≡ f .order - suc s = omega arith in rw (e, z)
+
+  pub single-undone : (s : ℕ) → nthUndone Single (f .order) (f .row) s ≡ nthRow Inverse f s
+  unfolding nthRow isInverse
+  single-undone s = rw e
+
+  module _ (b : f .row < f .order) where
+    pub first-applied : f .row ≡ nthRow Forward f 0
+    first-applied =
+        let z : f .order - 1 - 0 ≡ f .order - 1 = omega arith in
+        sym (last-undone (f .order) (f .row) b) ∙ rw z at (single-applied 0 (omega arith))
+
+    pub last-row-undone : f .row ≡ nthRow Inverse f (f .order - 1)
+    last-row-undone = sym (last-undone (f .order) (f .row) b) ∙ single-undone (f .order - 1)
 
 pub pair-order-row : (task : Task) (f g : Layout) (s u : ℕ) → u < g .order →
     pairOrder task f g (s * g .order + u) ≡ rowOrder task g (nthRow task f s) u

@@ -1,16 +1,90 @@
-// A pair of single-row factors, row by row, in place.
-ghost use Rattle.rules.specs.declared.Kind.the-variants.{Single};
-ghost use Rattle.rectanglerun.specs.RowsInTurn.{Weighable, Weighed};
+// A pair of single-row factors, row by row, in place. The row with entries is taken apart from the rows beside it.
 ghost use mathlib.Core.Path.{_≡_};
-use crate::steps::nth_row;
+ghost use Prim.Native.Nat.{_-_, _<_};
+ghost use Rattle.rules.specs.declared.Kind.the-variants.{Single};
+ghost use Rattle.factor.specs.UndoingOrder.{nthUndone};
+ghost use Rattle.rows.specs.LaidRows.{Laid};
+ghost use Rattle.rectanglerun.specs.RowsInTurn.{Weighable, Weighed, TurnsDone};
 use factor::Layout;
 use factor::run::Outcome;
 use factor::run::Task;
-use rows::single::apply_single_row;
-use rows::single::undo_single_row;
+use rows::single::apply_beside;
+use rows::single::apply_crossing;
+use rows::single::lay_entries;
+use rows::single::lay_signs;
+use rows::single::undo_beside;
+use rows::single::undo_crossing;
 use rules::Rule;
 
-// All rows applied, each in its turn. Each task has a loop of its own: one that asks for the task in every turn is slower.
+// The row that a single-row factor undoes in turn t: round from the row after r. The order of any kind would make the loops below
+// too large for the compiler to write them out.
+fn nth_single(f: Layout, t: usize) -> usize
+    requires { ⌜ (t < f .order) × (f .row < f .order) ⌝ }
+    ensures { λ i. ⌜ i ≡ nthUndone Single (f .order) (f .row) t ⌝ }
+{
+    let n = f.order;
+    let r = f.row;
+    if t < n - 1 - r {
+        return r + 1 + t;
+    }
+    t - (n - 1 - r)
+}
+
+// The rows beside row r applied, each in its turn, where rows have n numbers.
+fn apply_rows_beside(
+    rule: Rule,
+    col: &[i32],
+    fa: Layout,
+    row: &[i32],
+    fb: Layout,
+    n: usize,
+    g: &[i32; 16],
+    w: &[i32; 16],
+    x: &mut [i32; 256],
+) -> Outcome
+    requires { ⌜ Weighable Task.Forward (now col) fa (now row) fb (now x) × (fb .kind ≡ Single)
+        × Laid (now row) fb n (now g) (now w) ⌝ }
+    ensures { λ r. ⌜ TurnsDone Task.Forward rule (now (col .entry)) fa (now (row .entry)) fb 1 (fa .order) (now (x .entry))
+        (r .ok) (now (x .exit)) ⌝ }
+{
+    let m = fa.order;
+    for s in 1..m {
+        let i = nth_single(fa, m - 1 - s);
+        let r = apply_beside(rule, col, fa, row, fb, n, g, w, i, x);
+        if !r.ok {
+            return r;
+        }
+    }
+    Outcome { ok: true, stage: 0 }
+}
+
+// The same; where rows have 8 or 16 numbers the compiler is told so, and writes their sums out.
+fn apply_all_beside(
+    rule: Rule,
+    col: &[i32],
+    fa: Layout,
+    row: &[i32],
+    fb: Layout,
+    g: &[i32; 16],
+    w: &[i32; 16],
+    x: &mut [i32; 256],
+) -> Outcome
+    requires { ⌜ Weighable Task.Forward (now col) fa (now row) fb (now x) × (fb .kind ≡ Single)
+        × Laid (now row) fb (fb .order) (now g) (now w) ⌝ }
+    ensures { λ r. ⌜ TurnsDone Task.Forward rule (now (col .entry)) fa (now (row .entry)) fb 1 (fa .order) (now (x .entry))
+        (r .ok) (now (x .exit)) ⌝ }
+{
+    let n = fb.order;
+    if n == 16 {
+        return apply_rows_beside(rule, col, fa, row, fb, 16, g, w, x);
+    }
+    if n == 8 {
+        return apply_rows_beside(rule, col, fa, row, fb, 8, g, w, x);
+    }
+    apply_rows_beside(rule, col, fa, row, fb, n, g, w, x)
+}
+
+// All rows applied. Row r, which looks at the others, comes first.
 pub fn apply_single_rows(
     rule: Rule,
     col: &[i32],
@@ -23,10 +97,37 @@ pub fn apply_single_rows(
     ensures { λ r. ⌜ Weighed Task.Forward rule (now (col .entry)) fa (now (row .entry)) fb (now (x .entry))
         (r .ok) (now (x .exit)) ⌝ }
 {
-    let n = fa.order;
-    for s in 0..n {
-        let i = nth_row(Task::Forward, fa, s);
-        let r = apply_single_row(rule, col, fa, row, fb, i, x);
+    let g = lay_signs(row, fb);
+    let w = lay_entries(row, fb);
+    let i = fa.row;
+    let r = apply_crossing(rule, col, fa, row, fb, i, x);
+    if !r.ok {
+        return r;
+    }
+    apply_all_beside(rule, col, fa, row, fb, &g, &w, x)
+}
+
+// The rows beside row r undone, each in its turn, where rows have n numbers.
+fn undo_rows_beside(
+    rule: Rule,
+    col: &[i32],
+    fa: Layout,
+    row: &[i32],
+    fb: Layout,
+    n: usize,
+    g: &[i32; 16],
+    w: &[i32; 16],
+    x: &mut [i32; 256],
+) -> Outcome
+    requires { ⌜ Weighable Task.Inverse (now col) fa (now row) fb (now x) × (fb .kind ≡ Single)
+        × Laid (now row) fb n (now g) (now w) ⌝ }
+    ensures { λ r. ⌜ TurnsDone Task.Inverse rule (now (col .entry)) fa (now (row .entry)) fb 0 (fa .order - 1) (now (x .entry))
+        (r .ok) (now (x .exit)) ⌝ }
+{
+    let m = fa.order;
+    for s in 0..m - 1 {
+        let i = nth_single(fa, s);
+        let r = undo_beside(rule, col, fa, row, fb, n, g, w, i, x);
         if !r.ok {
             return r;
         }
@@ -34,7 +135,33 @@ pub fn apply_single_rows(
     Outcome { ok: true, stage: 0 }
 }
 
-// All rows undone.
+// The same; where rows have 8 or 16 numbers the compiler is told so, and writes their sums out.
+fn undo_all_beside(
+    rule: Rule,
+    col: &[i32],
+    fa: Layout,
+    row: &[i32],
+    fb: Layout,
+    g: &[i32; 16],
+    w: &[i32; 16],
+    x: &mut [i32; 256],
+) -> Outcome
+    requires { ⌜ Weighable Task.Inverse (now col) fa (now row) fb (now x) × (fb .kind ≡ Single)
+        × Laid (now row) fb (fb .order) (now g) (now w) ⌝ }
+    ensures { λ r. ⌜ TurnsDone Task.Inverse rule (now (col .entry)) fa (now (row .entry)) fb 0 (fa .order - 1) (now (x .entry))
+        (r .ok) (now (x .exit)) ⌝ }
+{
+    let n = fb.order;
+    if n == 16 {
+        return undo_rows_beside(rule, col, fa, row, fb, 16, g, w, x);
+    }
+    if n == 8 {
+        return undo_rows_beside(rule, col, fa, row, fb, 8, g, w, x);
+    }
+    undo_rows_beside(rule, col, fa, row, fb, n, g, w, x)
+}
+
+// All rows undone. Row r comes last, since it looks at the others as they were.
 pub fn undo_single_rows(
     rule: Rule,
     col: &[i32],
@@ -47,13 +174,12 @@ pub fn undo_single_rows(
     ensures { λ r. ⌜ Weighed Task.Inverse rule (now (col .entry)) fa (now (row .entry)) fb (now (x .entry))
         (r .ok) (now (x .exit)) ⌝ }
 {
-    let n = fa.order;
-    for s in 0..n {
-        let i = nth_row(Task::Inverse, fa, s);
-        let r = undo_single_row(rule, col, fa, row, fb, i, x);
-        if !r.ok {
-            return r;
-        }
+    let g = lay_signs(row, fb);
+    let w = lay_entries(row, fb);
+    let r = undo_all_beside(rule, col, fa, row, fb, &g, &w, x);
+    if !r.ok {
+        return r;
     }
-    Outcome { ok: true, stage: 0 }
+    let i = fa.row;
+    undo_crossing(rule, col, fa, row, fb, i, x)
 }

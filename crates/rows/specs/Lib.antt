@@ -4,3 +4,4 @@ pub mod Triangles
 pub mod TrianglesUndone
 pub mod SingleRows
 pub mod SingleRowsInPlace
+pub mod LaidRows

@@ -10,7 +10,7 @@ use lib.IntN.{ℤ, pos, _+ℤ_, _-ℤ_, _*ℤ_, +ℤ-idl, +ℤ-idr}
 use lib.Signed.{_≤ℤ_, _<ℤ_, shrZ}
 use lib.ListN.{length, replicate}
 use Rattle.whole.specs.Diff.{lia, lin, given₂, Within}
-use Rattle.whole.specs.Laws.{Sign, distrib, mul-left-comm, mul-add}
+use Rattle.whole.specs.Laws.{Sign, signs-times, distrib, mul-left-comm, mul-add}
 use Rattle.whole.specs.Floor.{shr-lo, shr-hi, shr-unique}
 use Rattle.whole.specs.Machine.{within-sign, within-le, within-*}
 use Rattle.whole.specs.Sum.{sum, sum-cong, sum-scale, sum-within}
@@ -26,8 +26,8 @@ use Rattle.factor.specs.Layouts.{row, rowBy, rowOf}
 use Rattle.factor.specs.LayoutInSheet.{InSheet}
 use Rattle.factor.specs.Rounding.{rounded-within}
 use Rattle.factor.specs.SumBounds.{Bounded, RowIn}
-use Rattle.joint.specs.Sums.{entriesSum, columnSums, jointSum, entries-small}
-use Rattle.joint.specs.Elements.{signAt, diagonalOf, sumsAt, roundedSum, appliedAt, undoneAt, appliedOf, undoneOf, band-at}
+use Rattle.joint.specs.Sums.{entriesSum, columnSums, jointSum}
+use Rattle.joint.specs.Elements.{signAt, diagonalOf, sumsAt, roundedSum, appliedAt, undoneAt, appliedOf, undoneOf}
 use Rattle.rows.specs.Triangles.{totalOf}
 use Rattle.rows.specs.RowsInPlace.{applied-here, undone-here}
 
@@ -36,17 +36,21 @@ use Rattle.rows.specs.RowsInPlace.{applied-here, undone-here}
 unfoldable pub besideSum : List ℤ → Layout → ℕ → ℕ → List ℤ → ℤ
 besideSum s f j k x = entriesSum s (rowOf f j) j (λ l. at x (k + l))
 
--- the element in column q of that row, q the row of the factor, d the sign of the block's row; undone, it is y now
-unfoldable pub appliedBeside : Rule → List ℤ → Layout → ℤ → ℕ → List ℤ → ℤ
-appliedBeside rule s f d k x =
-    ((d *ℤ signAt s f (f .row)) *ℤ at x (k + f .row)) +ℤ R rule unit (d *ℤ besideSum s f (f .row) k x)
+-- n entries, each times a number of the block from place k on
+abbrev pub narrowSum : List ℤ → List ℤ → ℕ → ℕ → ℤ
+narrowSum w x k n = sum n (λ j. at w j *ℤ at x (k + j))
 
-unfoldable pub undoneBeside : Rule → List ℤ → Layout → ℤ → ℕ → ℤ → List ℤ → ℤ
-undoneBeside rule s f d k y x = (d *ℤ signAt s f (f .row)) *ℤ (y -ℤ R rule unit (d *ℤ besideSum s f (f .row) k x))
+-- an element of the number z that looks at its row alone, t its sum, d the sign of its row and e that of its column; undone, it
+-- is z now
+unfoldable pub appliedBeside : Rule → ℤ → ℤ → ℤ → ℤ → ℤ
+appliedBeside rule d e t z = ((d *ℤ e) *ℤ z) +ℤ R rule unit (d *ℤ t)
 
--- y is x with the first m numbers from place k on times the sign d and the sign of their column
-pub record Turned (s : List ℤ) (f : Layout) (d : ℤ) (k m : ℕ) (x y : List ℤ) : Type 0 where
-  pub each : (j : ℕ) → j < m → at y (k + j) ≡ (d *ℤ signAt s f j) *ℤ at x (k + j)
+unfoldable pub undoneBeside : Rule → ℤ → ℤ → ℤ → ℤ → ℤ
+undoneBeside rule d e t z = (d *ℤ e) *ℤ (z -ℤ R rule unit (d *ℤ t))
+
+-- y is x with the first m numbers from place k on times the sign d and the sign g of their column
+pub record Turned (g : ℕ → ℤ) (d : ℤ) (k m : ℕ) (x y : List ℤ) : Type 0 where
+  pub each : (j : ℕ) → j < m → at y (k + j) ≡ (d *ℤ g j) *ℤ at x (k + j)
   pub other : (e : ℕ) → ((j : ℕ) → j < m → k + j ≢ e) → at y e ≡ at x e
   pub long : length y ≡ length x
 
@@ -55,73 +59,46 @@ abbrev pub OneRow : Layout → Type 0
 OneRow f = (m : ℕ) → m ≢ f .row → rowOf f m ≡ row (f .entries) 0 0
 
 -- ---- what the code asks
--- m entries of a from place p on, and numbers of the block from place k on
-pub record Narrow (a : List ℤ) (p : ℕ) (x : List ℤ) (k m : ℕ) : Type 0 where
-  pub few : m ≤ 16
-  pub room : p + m ≤ length a
-  pub places : k + m ≤ 256
-  pub entries : (j : ℕ) → j < m → Within mostEntry (at a (p + j))
+-- n entries, and numbers of the block from place k on
+pub record Narrow (w x : List ℤ) (k n : ℕ) : Type 0 where
+  pub few : n ≤ 16
+  pub places : k + n ≤ 256
+  pub entries : (j : ℕ) → j < n → Within mostEntry (at w j)
   pub numbers : Bounded bound x
 
--- row j of a factor, and the block's row from place k on
-pub record LineGiven (s : List ℤ) (f : Layout) (j k : ℕ) (x : List ℤ) : Type 0 where
-  pub sheet : InSheet s f
-  pub column : j < f .order
-  pub places : k + f .order ≤ 256
+-- the signs g of n columns, and the block's row from place k on, whose sign is d
+pub record SignsGiven (g : List ℤ) (n : ℕ) (d : ℤ) (k : ℕ) (x : List ℤ) : Type 0 where
+  pub few : n ≤ 16
+  pub places : k + n ≤ 256
+  pub sign : Sign d
+  pub signs : (j : ℕ) → j < n → Sign (at g j)
   pub numbers : Bounded bound x
+
+-- what the sign of an element asks, and that it is one
+module _ {g : List ℤ} {n : ℕ} {d : ℤ} {k : ℕ} {x : List ℤ} (h : SignsGiven g n d k x) (j : ℕ) (l : j < n) where
+  pub sign-asks : (j < 16) × Sign d × Sign (at g j)
+  sign-asks = ((let f = h .few in omega arith), h .sign, h .signs j l)
+
+  pub both-sign : Sign (d *ℤ at g j)
+  both-sign = signs-times (h .sign) (h .signs j l)
 
 -- ---- sizes
 abbrev pub mostBeside : ℕ
 mostBeside = 16 * (mostEntry * bound)
 
-pub narrow-small : {a x : List ℤ} {p k m : ℕ} → Narrow a p x k m → (i : ℕ) → i ≤ m →
-    Within mostBeside (sum i (λ j. at a (p + j) *ℤ at x (k + j)))
-narrow-small {m} t i l =
+pub narrow-small : {w x : List ℤ} {k n : ℕ} → Narrow w x k n → (i : ℕ) → i ≤ n → Within mostBeside (narrowSum w x k i)
+narrow-small {n} t i l =
     let h = t .few in
     within-le (omega (arith, NatL.mul-le-mul-right (mostEntry * bound) (NatL.le-trans l h)))
     (sum-within i _ (λ j b. within-* (t .entries j (omega arith)) (t .numbers .small _)))
 
-module _ {s x : List ℤ} {f : Layout} {j k : ℕ} (h : LineGiven s f j k x) where
-  in-line : RowIn s (f .order) (rowOf f j) j
-  in-line = h .sheet .row j (h .column)
+-- the whole sum, times a sign, and rounded
+module _ {w x : List ℤ} {k n : ℕ} {d : ℤ} (t : Narrow w x k n) (g : Sign d) where
+  pub turned-sum-small : Within mostBeside (d *ℤ narrowSum w x k n)
+  turned-sum-small = within-sign g (narrow-small t n (NatL.le-refl n))
 
-  pub beside-left : Narrow s (rowOf f j .at) x k (rowOf f j .left)
-  beside-left = record {
-    few = let l = in-line .left in let o = h .sheet .order in omega (arith, h .column);
-    room = let r = in-line .room in omega arith;
-    places = let l = in-line .left in omega (arith, h .column, h .places);
-    entries = λ i b. in-line .entries i (omega arith);
-    numbers = h .numbers;
-  }
-
-  pub beside-right : Narrow s (rowOf f j .at + rowOf f j .left) x (k + (j + 1)) (rowOf f j .right)
-  beside-right = record {
-    few = let r = in-line .right in let o = h .sheet .order in omega arith;
-    room = let r = in-line .room in omega arith;
-    places = let r = in-line .right in omega (arith, h .places);
-    entries = λ i b. let e : rowOf f j .at + (rowOf f j .left + i) ≡ rowOf f j .at + rowOf f j .left + i = omega arith in
-        rw e at (in-line .entries (rowOf f j .left + i) (omega arith));
-    numbers = h .numbers;
-  }
-
-  pub beside-runs :
-      sum (rowOf f j .left) (λ i. at s (rowOf f j .at + i) *ℤ at x (k + i))
-      +ℤ sum (rowOf f j .right) (λ i. at s (rowOf f j .at + rowOf f j .left + i) *ℤ at x (k + (j + 1) + i)) ≡ besideSum s f j k x
-  unfolding besideSum entriesSum
-  beside-runs =
-      ap (λ (z : ℤ). sum (rowOf f j .left) (λ i. at s (rowOf f j .at + i) *ℤ at x (k + i)) +ℤ z)
-      (sum-cong (rowOf f j .right) _ _
-      (λ i b. let e : k + (j + 1) + i ≡ k + (suc j + i) = omega arith in rw e))
-
-  pub beside-small : Within mostBeside (besideSum s f j k x)
-  unfolding besideSum
-  beside-small =
-      within-le (omega arith)
-      (entries-small (band-at (h .sheet) j (h .column)) (λ l. at x (k + l)) (λ l. h .numbers .small (k + l)))
-
-  pub beside-rounded-small : {d : ℤ} → Sign d → (rule : Rule) →
-      Within (mostBeside + 2048) (R rule unit (d *ℤ besideSum s f j k x))
-  beside-rounded-small g rule = rounded-within rule unit (within-sign g beside-small)
+  pub rounded-sum-small : (rule : Rule) → Within (mostBeside + 2048) (R rule unit (d *ℤ narrowSum w x k n))
+  rounded-sum-small rule = rounded-within rule unit turned-sum-small
 
 -- ---- a sum of one scale rounds as that of two
 pub rounds-scaled : (rule : Rule) (t : ℤ) → R rule unit² (pos unit *ℤ t) ≡ R rule unit t
@@ -202,17 +179,17 @@ module _ (c : List ℤ) (fa : Layout) (i : ℕ) (single : fa .kind ≡ Single) (
       own-term d t e z = simp distrib (simp lin (omega arith))
 
   pub applied-beside : (rule : Rule) →
-      appliedOf rule c fa s fb x (i * fb .order + j) ≡ ((signAt c fa i *ℤ signAt s fb j) *ℤ at x (i * fb .order + j))
-      +ℤ R rule unit (signAt c fa i *ℤ besideSum s fb j (i * fb .order) x)
-  unfolding appliedAt
+      appliedOf rule c fa s fb x (i * fb .order + j)
+      ≡ appliedBeside rule (signAt c fa i) (signAt s fb j) (besideSum s fb j (i * fb .order) x) (at x (i * fb .order + j))
+  unfolding appliedAt appliedBeside
   applied-beside rule =
       applied-here rule c fa s fb x i j l
       ∙ ap (λ (z : ℤ). ((d *ℤ signAt s fb j) *ℤ at x (k + j)) +ℤ z) (rounded-beside rule)
 
   pub undone-beside : (rule : Rule) →
-      undoneOf rule c fa s fb x (i * fb .order + j) ≡ (signAt c fa i *ℤ signAt s fb j) *ℤ (at x (i * fb .order + j)
-      -ℤ R rule unit (signAt c fa i *ℤ besideSum s fb j (i * fb .order) x))
-  unfolding undoneAt
+      undoneOf rule c fa s fb x (i * fb .order + j)
+      ≡ undoneBeside rule (signAt c fa i) (signAt s fb j) (besideSum s fb j (i * fb .order) x) (at x (i * fb .order + j))
+  unfolding undoneAt undoneBeside
   undone-beside rule =
       undone-here rule c fa s fb x i j l
       ∙ ap (λ (z : ℤ). (d *ℤ signAt s fb j) *ℤ (at x (k + j) -ℤ z)) (rounded-beside rule)
@@ -226,18 +203,13 @@ module _ (c : List ℤ) (fa : Layout) (i : ℕ) (single : fa .kind ≡ Single) (
 
     pub applied-corner : (rule : Rule) →
         appliedOf rule c fa s fb x (i * fb .order + j) ≡ (signAt c fa i *ℤ signAt s fb j) *ℤ at x (i * fb .order + j)
+    unfolding appliedBeside
     applied-corner rule = applied-beside rule ∙ rw (no-rounding rule) (+ℤ-idr ((d *ℤ signAt s fb j) *ℤ at x (k + j)))
 
     pub undone-corner : (rule : Rule) →
         undoneOf rule c fa s fb x (i * fb .order + j) ≡ (signAt c fa i *ℤ signAt s fb j) *ℤ at x (i * fb .order + j)
+    unfolding undoneBeside
     undone-corner rule = undone-beside rule ∙ rw (no-rounding rule) (ap (_*ℤ_ (d *ℤ signAt s fb j)) (minus-zero (at x (k + j))))
-
--- the element in column q
-pub applied-column : (rule : Rule) (c : List ℤ) (fa : Layout) (i : ℕ) → fa .kind ≡ Single → i ≢ fa .row →
-    {s : List ℤ} {fb : Layout} → InSheet s fb → (x : List ℤ) → fb .row < fb .order →
-    appliedBeside rule s fb (signAt c fa i) (i * fb .order) x ≡ appliedOf rule c fa s fb x (i * fb .order + fb .row)
-unfolding appliedBeside
-applied-column rule c fa i e q {fb} h x l = sym (applied-beside c fa i e q h x (fb .row) l rule)
 
 -- the whole sum of an element beside column q
 pub total-beside : (s : List ℤ) (f : Layout) (j : ℕ) (v : List ℤ) → OneRow f → j ≢ f .row →

@@ -11,7 +11,7 @@ use native.Mathlib.Numerals.{add-one}
 use native.Mathlib.Omega.{arith}
 use borrow.Author.Tests.{le-ltb}
 use lib.Dec.{leb}
-use lib.IntN.{ℤ, natAbs, _+ℤ_, _-ℤ_, _*ℤ_}
+use lib.IntN.{ℤ, natAbs, _+ℤ_, _*ℤ_}
 use lib.ListN.{length, set, length-set}
 use lib.Seq.{set-set}
 use Rattle.whole.specs.Diff.{Within}
@@ -20,8 +20,7 @@ use Rattle.whole.specs.Machine.{within-sign}
 use Rattle.whole.specs.Sum.{sum-cong}
 use Rattle.rules.specs.declared.Kind.the-variants.{Single}
 use Rattle.rules.specs.declared.Rule.{Rule}
-use Rattle.rules.specs.Numbers.{unit, at}
-use Rattle.rules.specs.Stages.{R}
+use Rattle.rules.specs.Numbers.{at}
 use Rattle.rules.specs.Laws.GoodStages.{Permutes}
 use Rattle.rules.specs.Laws.Membership.{true-false}
 use Rattle.rules.specs.Laws.Lists.{set-at, set-other, same-list}
@@ -34,8 +33,8 @@ use Rattle.factor.specs.InPlace.{inPlace, length-in-place, in-place-other, apar
 use Rattle.joint.specs.Sums.{entriesSum}
 use Rattle.joint.specs.Elements.{signAt, appliedOf, undoneOf}
 use Rattle.rows.specs.RowsInPlace.{Stopped, RowDone, inRow, plain}
-use Rattle.rows.specs.SingleRows.{besideSum, appliedBeside, undoneBeside, Turned}
-use Rattle.rows.specs.SingleRows.{applied-beside, undone-beside, applied-corner, undone-corner}
+use Rattle.rows.specs.SingleRows.{besideSum, undoneBeside, Turned}
+use Rattle.rows.specs.SingleRows.{undone-beside, applied-corner, undone-corner}
 
 -- ---- how a row ends, by its outcome
 module _ {most m : ℕ} {step : List ℤ → ℕ → ℤ} {q : ℕ → ℕ} {x y : List ℤ} where
@@ -60,16 +59,16 @@ unfolding inPlace
 turn-next step q j x w = rw (add-one, w)
 
 -- ---- turned element by element
-module _ {s : List ℤ} {f : Layout} {d : ℤ} {k : ℕ} where
-  pub turned-none : (x : List ℤ) → Turned s f d k 0 x x
+module _ {g : ℕ → ℤ} {d : ℤ} {k : ℕ} where
+  pub turned-none : (x : List ℤ) → Turned g d k 0 x x
   turned-none x = record { each = λ j l. absurd (omega arith); other = λ e h. refl; long = refl }
 
-  module _ {m : ℕ} {x y : List ℤ} (t : Turned s f d k m x y) where
+  module _ {m : ℕ} {x y : List ℤ} (t : Turned g d k m x y) where
     -- the element whose turn it is, as it was
     pub turned-ahead : at y (k + m) ≡ at x (k + m)
     turned-ahead = t .other (k + m) (λ j l e. omega arith)
 
-    pub turned-next : k + m < length x → Turned s f d k (m + 1) x (set y (k + m) ((d *ℤ signAt s f m) *ℤ at x (k + m)))
+    pub turned-next : k + m < length x → Turned g d k (m + 1) x (set y (k + m) ((d *ℤ g m) *ℤ at x (k + m)))
     turned-next room = record {
       each = λ j l. go j l (ℕ-discrete j m);
       other = λ e h. set-other y (k + m) e _ (λ z. h m (omega arith) (sym z)) ∙ t .other e (λ j l. h j (omega arith));
@@ -77,12 +76,12 @@ module _ {s : List ℤ} {f : Layout} {d : ℤ} {k : ℕ} where
     }
       where
         go : (j : ℕ) → j < m + 1 → Dec (j ≡ m) →
-            at (set y (k + m) ((d *ℤ signAt s f m) *ℤ at x (k + m))) (k + j) ≡ (d *ℤ signAt s f j) *ℤ at x (k + j)
+            at (set y (k + m) ((d *ℤ g m) *ℤ at x (k + m))) (k + j) ≡ (d *ℤ g j) *ℤ at x (k + j)
         go j l (yes e) = rw e (set-at y (k + m) _ (omega (arith, t .long)))
         go j l (no e) = set-other y (k + m) (k + j) _ (λ z. omega arith) ∙ t .each j (omega arith)
 
-    pub turned-small : Sign d → ((j : ℕ) → j < m → Sign (signAt s f j)) → {B : ℕ} → Bounded B x → Bounded B y
-    turned-small g signs {B} b = record { small = λ e. go e (decLt e k) (decLt e (k + m)) }
+    pub turned-small : Sign d → ((j : ℕ) → j < m → Sign (g j)) → {B : ℕ} → Bounded B x → Bounded B y
+    turned-small sign signs {B} b = record { small = λ e. go e (decLt e k) (decLt e (k + m)) }
       where
         go : (e : ℕ) → Dec (e < k) → Dec (e < k + m) → Within B (at y e)
         go e (yes p) q = rw (t .other e (λ j l z. omega arith)) (b .small e)
@@ -90,7 +89,7 @@ module _ {s : List ℤ} {f : Layout} {d : ℤ} {k : ℕ} where
         go e (no p) (yes q) =
             let z : k + (e - k) ≡ e = omega arith in
             let l : e - k < m = omega arith in
-            rw (← z, t .each (e - k) l) (within-sign (signs-times g (signs (e - k) l)) (b .small (k + (e - k))))
+            rw (← z, t .each (e - k) l) (within-sign (signs-times sign (signs (e - k) l)) (b .small (k + (e - k))))
 
 -- ---- a block that has at each place of n turns what that turn makes, and is as before elsewhere, is what the turns leave
 module _ (step : List ℤ → ℕ → ℤ) (p : ℕ → ℕ) (n : ℕ) (x y : List ℤ) (room : (u : ℕ) → u < n → p u < length x)
@@ -120,14 +119,19 @@ module _ (step : List ℤ → ℕ → ℤ) (p : ℕ → ℕ) (n : ℕ) (x y : Li
       (λ e l. agree n (le-refl n) e (λ u a b. absurd (omega arith)))
 
 -- ---- the row, turned and with element q set, is the row applied; and undone, where the sum is of the row as turned
-last-undone : (n r : ℕ) → r < n → nthUndone Single n r (n - 1) ≡ r
+pub last-undone : (n r : ℕ) → r < n → nthUndone Single n r (n - 1) ≡ r
 unfolding nthUndone
 last-undone n r l = rw (le-ltb (n - 1) (n - suc r) (omega arith)) (omega arith)
+
+-- before the last turn it is another
+pub early-undone : (n r u : ℕ) → r < n → u < n - 1 → nthUndone Single n r u ≢ r
+early-undone n r u l b e =
+    apart (undoing-permutes Single n r l) u (n - 1) (omega arith) (omega arith) (λ z. omega arith) (e ∙ sym (last-undone n r l))
 
 module _ (rule : Rule) (c : List ℤ) (fa : Layout) (i : ℕ) (single : fa .kind ≡ Single) (beside : i ≢ fa .row)
     {s : List ℤ} {fb : Layout} (single′ : fb .kind ≡ Single) (h : InSheet s fb) (low : fb .row < fb .order) (x : List ℤ)
     (room : i * fb .order + fb .order ≤ length x) {t : List ℤ}
-    (turns : Turned s fb (signAt c fa i) (i * fb .order) (fb .order) x t) where
+    (turns : Turned (signAt s fb) (signAt c fa i) (i * fb .order) (fb .order) x t) where
   abbrev n : ℕ
   n = fb .order
 
@@ -140,9 +144,8 @@ module _ (rule : Rule) (c : List ℤ) (fa : Layout) (i : ℕ) (single : fa .kind
   abbrev d : ℤ
   d = signAt c fa i
 
-  pub applied-row : {z : ℤ} → z ≡ appliedBeside rule s fb (signAt c fa i) (i * fb .order) x →
+  pub applied-row : {z : ℤ} → z ≡ appliedOf rule c fa s fb x (i * fb .order + fb .row) →
       set t (i * fb .order + fb .row) z ≡ inPlace (plain (appliedOf rule c fa s fb x)) (inRow (fb .order) i) (fb .order) x
-  unfolding appliedBeside
   applied-row {z} e =
       turns-leave (plain (appliedOf rule c fa s fb x)) (inRow n i) n x (set t (k + q) z) (λ u l. omega arith)
       (λ u l. go u l (ℕ-discrete u q))
@@ -151,7 +154,7 @@ module _ (rule : Rule) (c : List ℤ) (fa : Layout) (i : ℕ) (single : fa .kind
     where
       go : (u : ℕ) → u < n → Dec (u ≡ q) → at (set t (k + q) z) (k + u) ≡ appliedOf rule c fa s fb x (k + u)
       go u l (yes w) =
-          rw w (set-at t (k + q) z (omega (arith, turns .long)) ∙ e ∙ sym (applied-beside c fa i single beside h x q low rule))
+          rw w (set-at t (k + q) z (omega (arith, turns .long)) ∙ e)
       go u l (no w) =
           set-other t (k + q) (k + u) z (λ v. omega arith) ∙ turns .each u l
           ∙ sym (applied-corner c fa i single beside h x u l single′ w rule)
@@ -183,7 +186,7 @@ module _ (rule : Rule) (c : List ℤ) (fa : Layout) (i : ℕ) (single : fa .kind
       made u l =
           let j = nthUndone (fb .kind) n q u in
           let b : u < n = omega arith in
-          let w : j ≢ q = λ w. apart order u (n - 1) b (omega arith) (λ z. omega arith) (w ∙ sym last) in
+          let w : j ≢ q = rw single′ (early-undone n q u low l) in
           set-other t (k + q) (k + j) _ (λ v. w (omega arith)) ∙ turns .each j (order .below u b)
           ∙ sym (undone-corner c fa i single beside h (inPlace step p u x) j (order .below u b) single′ w rule
           ∙ ap (_*ℤ_ (d *ℤ signAt s fb j))
@@ -202,18 +205,19 @@ module _ (rule : Rule) (c : List ℤ) (fa : Layout) (i : ℕ) (single : fa .kind
               a (order .from j) (let b = order .from-below j l in omega arith) (ap (λ (m : ℕ). k + m) (order .to-from j l) ∙ z)
 
   -- the last looks at the others alone
-  last-value : step almost (k + q) ≡ undoneBeside rule s fb d k (at x (k + q)) t
-  unfolding undoneBeside besideSum entriesSum
+  last-value : step almost (k + q) ≡ undoneBeside rule d (signAt s fb q) (besideSum s fb q k t) (at x (k + q))
+  unfolding besideSum entriesSum
   last-value =
       undone-beside c fa i single beside h almost q low rule
-      ∙ ap₂ (λ (a b : ℤ). (d *ℤ signAt s fb q) *ℤ (a -ℤ R rule unit (d *ℤ b)))
+      ∙ ap₂ (λ (a b : ℤ). undoneBeside rule d (signAt s fb q) b a)
       (set-at t (k + q) _ (omega (arith, turns .long)))
       (ap₂ _+ℤ_
       (sum-cong (rowOf fb q .left) _ _
       (λ l b. let a = h .row q low .left in rw (set-other t (k + q) (k + l) (at x (k + q)) (λ z. omega arith))))
       (sum-cong (rowOf fb q .right) _ _ (λ l b. rw (set-other t (k + q) (k + (suc q + l)) (at x (k + q)) (λ z. omega arith)))))
 
-  module _ {z : ℤ} (e : z ≡ undoneBeside rule s fb (signAt c fa i) (i * fb .order) (at x (i * fb .order + fb .row)) t) where
+  module _ {z : ℤ} (e : z ≡ undoneBeside rule (signAt c fa i) (signAt s fb (fb .row))
+      (besideSum s fb (fb .row) (i * fb .order) t) (at x (i * fb .order + fb .row))) where
     last-made : step (inPlace step p (n - 1) x) (p (n - 1)) ≡ z
     last-made = rw (last, ← almost-undone) (last-value ∙ sym e)
 

@@ -2,12 +2,13 @@
 // but itself, and its one sum has a scale of 4096, since the other scale is a sign's.
 ghost use mathlib.Core.Logic.{_≢_};
 ghost use mathlib.Core.Path.{_≡_};
-ghost use Prim.Native.Nat.{_+_, _*_, _≤_, _<_};
+ghost use Prim.Native.Nat.{_+_, _*_, _<_};
 ghost use lib.IntN.{_*ℤ_};
 ghost use lib.ListN.{length};
+ghost use mir.Syntax.{w32};
+ghost use mir.Val.{SFits};
 ghost use Rattle.whole.specs.Diff.{Within};
 ghost use Rattle.whole.specs.Laws.{Sign};
-ghost use Rattle.whole.specs.Sum.{sum};
 ghost use Rattle.rules.specs.declared.Kind.the-variants.{Single};
 ghost use Rattle.rules.specs.Numbers.{unit, bound, at};
 ghost use Rattle.rules.specs.Stages.{R};
@@ -15,9 +16,10 @@ ghost use Rattle.factor.specs.UndoingOrder.{nthUndone};
 ghost use Rattle.factor.specs.SumBounds.{Bounded};
 ghost use Rattle.factor.specs.LayoutInSheet.{InSheet};
 ghost use Rattle.joint.specs.Elements.{appliedOf, undoneOf};
-ghost use Rattle.rows.specs.RowsInPlace.{RowDone, inRow, plain};
+ghost use Rattle.rows.specs.RowsInPlace.{RowAsks, RowDone, inRow, plain};
 ghost use Rattle.rows.specs.Triangles.{TotalGiven, totalOf, RunGiven, appliedIn};
-ghost use Rattle.rows.specs.SingleRows.{OneRow, Narrow, LineGiven, besideSum, appliedBeside, undoneBeside, Turned};
+ghost use Rattle.rows.specs.SingleRows.{OneRow, Narrow, narrowSum, SignsGiven, Turned, appliedBeside, undoneBeside};
+ghost use Rattle.rows.specs.LaidRows.{entryIn, entriesLaid, signsLaid, Laid};
 use factor::Layout;
 use factor::nth_undone;
 use factor::rounding::applied;
@@ -41,145 +43,198 @@ use joint::sums::with_sum;
 use rules::Block;
 use rules::Rule;
 
-// The m numbers of a from place p on, each times a number of the block from place k on.
-fn narrow_sum(a: &[i32], p: usize, x: &[i32; 256], k: usize, m: usize) -> i64
-    requires { ⌜ Narrow (now a) p (now x) k m ⌝ }
-    ensures { λ s. ⌜ s ≡ sum m (λ j. at (now (a .entry)) (p + j) *ℤ at (now (x .entry)) (k + j)) ⌝ }
+// The entry in column j of the factor's one row, and 0 in the row's own column, where none stands.
+fn entry_in(row: &[i32], f: Layout, j: usize) -> i32
+    requires { ⌜ InSheet (now row) f × (f .kind ≡ Single) × (f .row < f .order) × (j < f .order) ⌝ }
+    ensures { λ r. ⌜ r ≡ entryIn (now (row .entry)) f j ⌝ }
+{
+    let q = f.row;
+    let entries = f.entries;
+    if j < q {
+        return row[entries + j];
+    }
+    if j == q {
+        return 0;
+    }
+    row[entries + (j - 1)]
+}
+
+// That row laid out by columns. With it a row of the block has one sum over all its columns, in place of two whose lengths are
+// known late, and the number in the row's own column is no part of it.
+pub fn lay_entries(row: &[i32], f: Layout) -> [i32; 16]
+    requires { ⌜ InSheet (now row) f × (f .kind ≡ Single) × (f .row < f .order) ⌝ }
+    ensures { λ r. ⌜ r ≡ entriesLaid (now (row .entry)) f ⌝ }
+{
+    let mut w = [0i32; 16];
+    let n = f.order;
+    for j in 0..n {
+        w[j] = entry_in(row, f, j);
+    }
+    w
+}
+
+// The signs of the columns, laid out: from an array of its own the compiler reads several at a time.
+pub fn lay_signs(row: &[i32], f: Layout) -> [i32; 16]
+    requires { ⌜ InSheet (now row) f ⌝ }
+    ensures { λ r. ⌜ r ≡ signsLaid (now (row .entry)) f ⌝ }
+{
+    let mut g = [0i32; 16];
+    let n = f.order;
+    for j in 0..n {
+        g[j] = sign_at(row, f, j);
+    }
+    g
+}
+
+// The first n entries of w, each times its number of the block's row that starts at place k.
+fn narrow_sum(w: &[i32; 16], x: &[i32; 256], k: usize, n: usize) -> i64
+    requires { ⌜ Narrow (now w) (now x) k n ⌝ }
+    ensures { λ s. ⌜ s ≡ narrowSum (now (w .entry)) (now (x .entry)) k n ⌝ }
 {
     let mut sum: i64 = 0;
-    for j in 0..m {
-        sum = with_term(sum, a[p + j], x[k + j]);
+    for j in 0..n {
+        sum = with_term(sum, w[j], x[k + j]);
     }
     sum
 }
 
-// The entries of row j of a factor, each times its number of the block's row that starts at place k.
-fn beside_sum(row: &[i32], f: Layout, j: usize, k: usize, x: &[i32; 256]) -> i64
-    requires { ⌜ LineGiven (now row) f j k (now x) ⌝ }
-    ensures { λ s. ⌜ s ≡ besideSum (now (row .entry)) f j k (now (x .entry)) ⌝ }
+// The same as the element looks at it: times the sign of the block's row, and rounded.
+fn rounded_beside(rule: Rule, w: &[i32; 16], n: usize, d: i32, k: usize, x: &[i32; 256]) -> i64
+    requires { ⌜ Narrow (now w) (now x) k n × Sign d ⌝ }
+    ensures { λ r. ⌜ r ≡ R rule unit (d *ℤ narrowSum (now (w .entry)) (now (x .entry)) k n) ⌝ }
 {
-    let r = row_of(f, j);
-    let at = r.at;
-    let left = r.left;
-    let right = r.right;
-    narrow_sum(row, at, x, k, left) + narrow_sum(row, at + left, x, k + (j + 1), right)
+    round_line(rule, turned(d, narrow_sum(w, x, k, n)))
 }
 
-// The same as the element looks at it: times the sign of the block's row, and rounded.
-fn rounded_beside(
+// The sign of the element in column j of a row of the sign d.
+fn sign_in(d: i32, g: &[i32; 16], j: usize) -> i32
+    requires { ⌜ (j < 16) × Sign d × Sign (at (now g) j) ⌝ }
+    ensures { λ r. ⌜ r ≡ d *ℤ at (now (g .entry)) j ⌝ }
+{
+    both_signs(d, g[j])
+}
+
+// What the element in column q of that row becomes, q the row of the row sheet's factor.
+fn applied_beside(
     rule: Rule,
-    row: &[i32],
-    f: Layout,
-    j: usize,
+    g: &[i32; 16],
+    w: &[i32; 16],
+    n: usize,
+    q: usize,
     d: i32,
     k: usize,
     x: &[i32; 256],
 ) -> i64
-    requires { ⌜ LineGiven (now row) f j k (now x) × Sign d ⌝ }
-    ensures { λ r. ⌜ r ≡ R rule unit (d *ℤ besideSum (now (row .entry)) f j k (now (x .entry))) ⌝ }
+    requires { ⌜ SignsGiven (now g) n d k (now x) × Narrow (now w) (now x) k n × (q < n) ⌝ }
+    ensures { λ r. ⌜ r ≡ appliedBeside rule d (at (now (g .entry)) q) (narrowSum (now (w .entry)) (now (x .entry)) k n)
+        (at (now (x .entry)) (k + q)) ⌝ }
 {
-    round_line(rule, turned(d, beside_sum(row, f, j, k, x)))
-}
-
-// What the element in column q of that row becomes, q the row of the row sheet's factor.
-fn applied_beside(rule: Rule, row: &[i32], f: Layout, d: i32, k: usize, x: &[i32; 256]) -> i64
-    requires { ⌜ LineGiven (now row) f (f .row) k (now x) × Sign d ⌝ }
-    ensures { λ r. ⌜ r ≡ appliedBeside rule (now (row .entry)) f d k (now (x .entry)) ⌝ }
-{
-    let q = f.row;
     applied(
-        both_signs(d, sign_at(row, f, q)),
+        sign_in(d, g, q),
         x[k + q],
-        rounded_beside(rule, row, f, q, d, k, x),
+        rounded_beside(rule, w, n, d, k, x),
     )
 }
 
 // What it was, where it is y now and the others of the row are recovered.
 fn undone_beside(
     rule: Rule,
-    row: &[i32],
-    f: Layout,
+    g: &[i32; 16],
+    w: &[i32; 16],
+    n: usize,
+    q: usize,
     d: i32,
     k: usize,
     y: i32,
     x: &[i32; 256],
 ) -> i64
-    requires { ⌜ LineGiven (now row) f (f .row) k (now x) × Sign d × Within bound y ⌝ }
-    ensures { λ r. ⌜ r ≡ undoneBeside rule (now (row .entry)) f d k y (now (x .entry)) ⌝ }
+    requires { ⌜ SignsGiven (now g) n d k (now x) × Narrow (now w) (now x) k n × (q < n) × Within bound y ⌝ }
+    ensures { λ r. ⌜ r ≡ undoneBeside rule d (at (now (g .entry)) q) (narrowSum (now (w .entry)) (now (x .entry)) k n) y ⌝ }
 {
-    let q = f.row;
-    undone(
-        both_signs(d, sign_at(row, f, q)),
-        y,
-        rounded_beside(rule, row, f, q, d, k, x),
-    )
+    undone(sign_in(d, g, q), y, rounded_beside(rule, w, n, d, k, x))
+}
+
+// A number of the block times a sign, which turns it. The compiler tests several signs at a time; for as many products the
+// baseline machine has no instruction.
+fn turned_number(s: i32, x: i32) -> i32
+    requires { ⌜ Sign s × SFits w32 (s *ℤ x) ⌝ }
+    ensures { λ r. ⌜ r ≡ s *ℤ x ⌝ }
+{
+    if s < 0 {
+        return -x;
+    }
+    x
 }
 
 // The n numbers of the block from place k on, each times the sign d of its row and the sign of its column.
-fn turn_row(row: &[i32], f: Layout, d: i32, k: usize, x: &mut [i32; 256])
-    requires { ⌜ InSheet (now row) f × Sign d × (k + f .order ≤ 256) × Bounded bound (now x) × (length (now x) ≡ 256) ⌝ }
-    ensures { λ _. ⌜ Turned (now (row .entry)) f d k (f .order) (now (x .entry)) (now (x .exit)) ⌝ }
+fn turn_row(g: &[i32; 16], n: usize, d: i32, k: usize, x: &mut [i32; 256])
+    requires { ⌜ SignsGiven (now g) n d k (now x) × (length (now x) ≡ 256) ⌝ }
+    ensures { λ _. ⌜ Turned (at (now (g .entry))) d k n (now (x .entry)) (now (x .exit)) ⌝ }
 {
-    let n = f.order;
     for j in 0..n {
-        x[k + j] = both_signs(both_signs(d, sign_at(row, f, j)), x[k + j]);
+        x[k + j] = turned_number(sign_in(d, g, j), x[k + j]);
     }
 }
 
-// A row beside the one with entries, applied.
-fn apply_beside(
+// A row beside the one with entries, applied, where rows have n numbers; g and w are the row sheet's signs and entries, laid out
+// once for all rows.
+pub fn apply_beside(
     rule: Rule,
     col: &[i32],
     fa: Layout,
     row: &[i32],
     fb: Layout,
+    n: usize,
+    g: &[i32; 16],
+    w: &[i32; 16],
     i: usize,
     x: &mut [i32; 256],
 ) -> Outcome
-    requires { ⌜ InSheet (now col) fa × InSheet (now row) fb × (i < fa .order) × (fb .row < fb .order)
-        × (fa .kind ≡ Single) × (fb .kind ≡ Single) × Bounded bound (now x) × (length (now x) ≡ 256) × (i ≢ fa .row) ⌝ }
+    requires { ⌜ RowAsks (now col) fa (now row) fb i (now x) × (fb .kind ≡ Single) × (i ≢ fa .row)
+        × Laid (now row) fb n (now g) (now w) ⌝ }
     ensures { λ r. ⌜ RowDone bound (plain (appliedOf rule (now (col .entry)) fa (now (row .entry)) fb (now (x .entry))))
         (inRow (fb .order) i) (fb .order) (now (x .entry)) (now (x .exit)) (r .ok) ⌝ }
 {
-    let n = fb.order;
     let q = fb.row;
     let d = sign_at(col, fa, i);
     let k = i * n;
-    let z = applied_beside(rule, row, fb, d, k, x);
+    let z = applied_beside(rule, g, w, n, q, d, k, x);
     if !is_within(z, Block::SAMPLE) {
         return Outcome {
             ok: false,
             stage: 1,
         };
     }
-    turn_row(row, fb, d, k, x);
+    turn_row(g, n, d, k, x);
     x[k + q] = z as i32;
     Outcome { ok: true, stage: 0 }
 }
 
 // The same undone: the sum is of the numbers recovered, which are those beside column q.
-fn undo_beside(
+pub fn undo_beside(
     rule: Rule,
     col: &[i32],
     fa: Layout,
     row: &[i32],
     fb: Layout,
+    n: usize,
+    g: &[i32; 16],
+    w: &[i32; 16],
     i: usize,
     x: &mut [i32; 256],
 ) -> Outcome
-    requires { ⌜ InSheet (now col) fa × InSheet (now row) fb × (i < fa .order) × (fb .row < fb .order)
-        × (fa .kind ≡ Single) × (fb .kind ≡ Single) × Bounded bound (now x) × (length (now x) ≡ 256) × (i ≢ fa .row) ⌝ }
+    requires { ⌜ RowAsks (now col) fa (now row) fb i (now x) × (fb .kind ≡ Single) × (i ≢ fa .row)
+        × Laid (now row) fb n (now g) (now w) ⌝ }
     ensures { λ r. ⌜ RowDone bound (undoneOf rule (now (col .entry)) fa (now (row .entry)) fb)
         (λ u. inRow (fb .order) i (nthUndone (fb .kind) (fb .order) (fb .row) u)) (fb .order)
         (now (x .entry)) (now (x .exit)) (r .ok) ⌝ }
 {
-    let n = fb.order;
     let q = fb.row;
     let d = sign_at(col, fa, i);
     let k = i * n;
     let y = x[k + q];
-    turn_row(row, fb, d, k, x);
-    let z = undone_beside(rule, row, fb, d, k, y, x);
+    turn_row(g, n, d, k, x);
+    let z = undone_beside(rule, g, w, n, q, d, k, y, x);
     if !is_within(z, Block::SAMPLE) {
         return Outcome {
             ok: false,
@@ -304,49 +359,4 @@ pub fn undo_crossing(
         v[j] = with_sum(v[j], diagonal_of(d), z);
     }
     Outcome { ok: true, stage: 0 }
-}
-
-// Row i of a pair of single-row factors, applied.
-pub fn apply_single_row(
-    rule: Rule,
-    col: &[i32],
-    fa: Layout,
-    row: &[i32],
-    fb: Layout,
-    i: usize,
-    x: &mut [i32; 256],
-) -> Outcome
-    requires { ⌜ InSheet (now col) fa × InSheet (now row) fb × (i < fa .order) × (fb .row < fb .order)
-        × (fa .kind ≡ Single) × (fb .kind ≡ Single) × Bounded bound (now x) × (length (now x) ≡ 256) ⌝ }
-    ensures { λ r. ⌜ RowDone bound (plain (appliedOf rule (now (col .entry)) fa (now (row .entry)) fb (now (x .entry))))
-        (inRow (fb .order) i) (fb .order) (now (x .entry)) (now (x .exit)) (r .ok) ⌝ }
-{
-    let r = fa.row;
-    if i == r {
-        return apply_crossing(rule, col, fa, row, fb, i, x);
-    }
-    apply_beside(rule, col, fa, row, fb, i, x)
-}
-
-// The same undone.
-pub fn undo_single_row(
-    rule: Rule,
-    col: &[i32],
-    fa: Layout,
-    row: &[i32],
-    fb: Layout,
-    i: usize,
-    x: &mut [i32; 256],
-) -> Outcome
-    requires { ⌜ InSheet (now col) fa × InSheet (now row) fb × (i < fa .order) × (fb .row < fb .order)
-        × (fa .kind ≡ Single) × (fb .kind ≡ Single) × Bounded bound (now x) × (length (now x) ≡ 256) ⌝ }
-    ensures { λ r. ⌜ RowDone bound (undoneOf rule (now (col .entry)) fa (now (row .entry)) fb)
-        (λ u. inRow (fb .order) i (nthUndone (fb .kind) (fb .order) (fb .row) u)) (fb .order)
-        (now (x .entry)) (now (x .exit)) (r .ok) ⌝ }
-{
-    let r = fa.row;
-    if i == r {
-        return undo_crossing(rule, col, fa, row, fb, i, x);
-    }
-    undo_beside(rule, col, fa, row, fb, i, x)
 }

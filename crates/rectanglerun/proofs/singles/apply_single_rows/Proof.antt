@@ -1,66 +1,72 @@
--- The block has the rows of s turns (`row-more`).
+-- Row r is the row of turn 0 (`first-applied`), and the rows beside it are those of all later turns (`turns-last`).
 use borrow.Author.Tests.{not-true, not-false}
-use Prim.Native.Nat.{_-_, _≤_}
+use mathlib.Core.Path.{_≡_, refl, _∙_}
+use Prim.Native.Nat.{_<_}
 use native.Mathlib.Omega.{arith}
-use mathlib.Core.Path.{_≡_, _∙_}
 use Rattle.factor.specs.declared.run.Task.the-variants.{Forward}
 use Rattle.factor.specs.Tasks.{limitOf}
 use Rattle.rows.specs.RowsInPlace.{elementOf, rowOrder}
-use Rattle.rectanglerun.specs.RowsInTurn.{Rows, no-rows, turn-below, row-more, row-stops, rows-all}
+use Rattle.rows.specs.SingleRows.{one-row}
+use Rattle.rectanglerun.specs.RowsInTurn.{Rows, no-rows, still, row-more, row-stops, turns-last}
+use Rattle.rectanglerun.specs.UndoingOrder.{nthRow, first-applied}
 use Rattle.rectanglerun.proofs.singles.apply_single_rows.Statement.{statement}
 use Rattle.rectanglerun.proofs.singles.apply_single_rows.Tie as tie
 
-abbrev Inv-loop : tie.InvT-loop
-Inv-loop rule col fa row fb x₀ n s₀ x s = (s ≤ n) × Rows Forward rule col fa row fb x₀ s x
+lay-signs-requires : tie.Need-lay-signs-requires
+lay-signs-requires c κs = c .pre .0 .row
 
-abbrev μ-loop : tie.MeasureT-loop
-μ-loop rule col fa row fb x₀ n s₀ x s = n - s
+lay-entries-requires : tie.Need-lay-entries-requires
+lay-entries-requires c κs = let s = c .before in (s .pre .0 .row, s .pre .1, s .pre .0 .low2)
 
-loop-holds : tie.Need-loop-holds Inv-loop μ-loop
-loop-holds c = (omega arith, no-rows (c .pre .0))
-
-nth-row-requires : tie.Need-nth-row-requires Inv-loop μ-loop
-nth-row-requires c κs = (c .loop-test .taken, c .before .before .pre .0 .low1)
-
-apply-single-row-requires : tie.Need-apply-single-row-requires Inv-loop μ-loop
+apply-crossing-requires : tie.Need-apply-crossing-requires
 unfolding limitOf
-apply-single-row-requires c κs =
-    let t = c .before .before in
-    let h = t .before .before .pre .0 in
-    let a = t .before .loop .inv .1 in
-    let e = t .before .before .pre .1 in
-    (h .column, h .row, turn-below h (t .loop-test .taken) (c .before .nth-row .ensures), h .low2, h .alike ∙ e, e, a .small, a .long)
+apply-crossing-requires c κs =
+    let s = c .before .before .before in
+    let h = s .pre .0 in (h .column, h .row, h .low1, h .small, h .low2, one-row (s .args .fb) (s .pre .1))
 
-returns : tie.Need-returns Inv-loop μ-loop
+-- row r comes first
+some : (s : tie.Start) → 0 < s .args .fa .order
+some s = let l = s .pre .0 .low1 in omega arith
+
+turn : (s : tie.Start) → s .args .fa .row ≡ nthRow Forward (s .args .fa) 0
+turn s = first-applied (s .args .fa) (s .pre .0 .alike ∙ s .pre .1) (s .pre .0 .low1)
+
+returns : tie.Need-returns
 unfolding limitOf elementOf rowOrder
 returns c =
     let r = c .before .before in
-    let t = r .before .before .before in
-    row-stops (t .before .before .pre .0) (t .loop-test .taken) (t .before .loop .inv .1) (r .before .before .nth-row .ensures)
-    (r .apply-single-row .ensures) (not-true _ (c .if1 .taken))
+    let s = r .before .before .before .before in
+    let h = s .pre .0 in row-stops h (some s) (no-rows h) (turn s) (r .apply-crossing .ensures) (not-true _ (c .if1 .taken))
 
-add-s : tie.Need-add-s Inv-loop μ-loop
-add-s c = omega arith
-
-loop-less : tie.Need-loop-less Inv-loop μ-loop
-loop-less c = omega arith
-
-loop-again : tie.Need-loop-again Inv-loop μ-loop
-unfolding limitOf elementOf rowOrder
-loop-again c =
+first : (c : tie.Else1) →
     let r = c .before .before in
-    let t = r .before .before .before in
-    let h = t .before .before .pre .0 in
-    let turn = r .before .before .nth-row .ensures in
-    let through = not-false _ (c .if1 .left) in
-    (omega arith, row-more h (t .loop-test .taken) (t .before .loop .inv .1) turn (r .apply-single-row .ensures) through)
+    let s = r .before .before .before .before in
+    Rows Forward (s .args .rule) (s .args .col .now) (s .args .fa) (s .args .row .now) (s .args .fb) (s .args .x .now) 1
+    (r .apply-crossing .last .1 .1 .1 .1 .1 .1 .0)
+unfolding limitOf elementOf rowOrder
+first c =
+    let r = c .before .before in
+    let s = r .before .before .before .before in
+    let h = s .pre .0 in row-more h (some s) (no-rows h) (turn s) (r .apply-crossing .ensures) (not-false _ (c .if1 .left))
 
-returns-2 : tie.Need-returns-2 Inv-loop μ-loop
+apply-all-beside-requires : tie.Need-apply-all-beside-requires
+apply-all-beside-requires c κs =
+    let e = c .before .before .before in
+    let l = e .before .before .before .before in
+    let s = l .before .before in
+    let a = first e in (
+      still (s .pre .0) (a .small) (a .long),
+      s .pre .1,
+      record { order = refl; signs = l .before .lay-signs .ensures; entries = l .lay-entries .ensures },
+    )
+
+returns-2 : tie.Need-returns-2
 returns-2 c =
-    let l = c .before in
-    let e : l .loop .s ≡ l .before .args .fa .order = omega arith in rows-all e (l .loop .inv .1)
+    let e = c .before .before .before .before in
+    let s = e .before .before .before .before .before .before in
+    turns-last (s .pre .0) (first e) (c .apply-all-beside .ensures)
 
 pub apply-single-rows-spec : {M : Type 1} → statement M
 apply-single-rows-spec =
     tie.close
-    (tie.spec Inv-loop μ-loop loop-holds nth-row-requires apply-single-row-requires returns add-s loop-less loop-again returns-2)
+    (tie.spec lay-signs-requires lay-entries-requires apply-crossing-requires returns apply-all-beside-requires returns-2)

@@ -1,66 +1,61 @@
--- The block has the rows of s turns (`row-more`).
+-- The rows beside row r are those of all turns but the last, and row r is that of the last (`last-row-undone`).
 use borrow.Author.Tests.{not-true, not-false}
-use Prim.Native.Nat.{_-_, _≤_}
+use mathlib.Core.Path.{refl, _∙_}
+use Prim.Native.Nat.{_-_}
 use native.Mathlib.Omega.{arith}
-use mathlib.Core.Path.{_≡_, _∙_}
 use Rattle.factor.specs.declared.run.Task.the-variants.{Inverse}
 use Rattle.factor.specs.Tasks.{limitOf}
 use Rattle.rows.specs.RowsInPlace.{elementOf, rowOrder}
-use Rattle.rectanglerun.specs.RowsInTurn.{Rows, no-rows, turn-below, row-more, row-stops, rows-all}
+use Rattle.rectanglerun.specs.RowsInTurn.{Rows, no-rows, row-last}
+use Rattle.rectanglerun.specs.UndoingOrder.{last-row-undone}
 use Rattle.rectanglerun.proofs.singles.undo_single_rows.Statement.{statement}
 use Rattle.rectanglerun.proofs.singles.undo_single_rows.Tie as tie
 
-abbrev Inv-loop : tie.InvT-loop
-Inv-loop rule col fa row fb x₀ n s₀ x s = (s ≤ n) × Rows Inverse rule col fa row fb x₀ s x
+lay-signs-requires : tie.Need-lay-signs-requires
+lay-signs-requires c κs = c .pre .0 .row
 
-abbrev μ-loop : tie.MeasureT-loop
-μ-loop rule col fa row fb x₀ n s₀ x s = n - s
+lay-entries-requires : tie.Need-lay-entries-requires
+lay-entries-requires c κs = let s = c .before in (s .pre .0 .row, s .pre .1, s .pre .0 .low2)
 
-loop-holds : tie.Need-loop-holds Inv-loop μ-loop
-loop-holds c = (omega arith, no-rows (c .pre .0))
+undo-all-beside-requires : tie.Need-undo-all-beside-requires
+undo-all-beside-requires c κs =
+    let l = c .before .before .before in
+    let s = l .before .before in
+    (s .pre .0, s .pre .1, record { order = refl; signs = l .before .lay-signs .ensures; entries = l .lay-entries .ensures })
 
-nth-row-requires : tie.Need-nth-row-requires Inv-loop μ-loop
-nth-row-requires c κs = (c .loop-test .taken, c .before .before .pre .0 .low1)
-
-undo-single-row-requires : tie.Need-undo-single-row-requires Inv-loop μ-loop
-unfolding limitOf
-undo-single-row-requires c κs =
-    let t = c .before .before in
-    let h = t .before .before .pre .0 in
-    let a = t .before .loop .inv .1 in
-    let e = t .before .before .pre .1 in
-    (h .column, h .row, turn-below h (t .loop-test .taken) (c .before .nth-row .ensures), h .low2, h .alike ∙ e, e, a .small, a .long)
-
-returns : tie.Need-returns Inv-loop μ-loop
-unfolding limitOf elementOf rowOrder
+returns : tie.Need-returns
 returns c =
     let r = c .before .before in
-    let t = r .before .before .before in
-    row-stops (t .before .before .pre .0) (t .loop-test .taken) (t .before .loop .inv .1) (r .before .before .nth-row .ensures)
-    (r .undo-single-row .ensures) (not-true _ (c .if1 .taken))
+    let h = r .before .before .before .before .before .before .pre .0 in
+    r .undo-all-beside .ensures .stopped (not-true _ (c .if1 .taken)) h (no-rows h)
 
-add-s : tie.Need-add-s Inv-loop μ-loop
-add-s c = omega arith
-
-loop-less : tie.Need-loop-less Inv-loop μ-loop
-loop-less c = omega arith
-
-loop-again : tie.Need-loop-again Inv-loop μ-loop
-unfolding limitOf elementOf rowOrder
-loop-again c =
+others : (c : tie.Else1) →
     let r = c .before .before in
-    let t = r .before .before .before in
-    let h = t .before .before .pre .0 in
-    let turn = r .before .before .nth-row .ensures in
-    let through = not-false _ (c .if1 .left) in
-    (omega arith, row-more h (t .loop-test .taken) (t .before .loop .inv .1) turn (r .undo-single-row .ensures) through)
+    let s = r .before .before .before .before .before .before in
+    Rows Inverse (s .args .rule) (s .args .col .now) (s .args .fa) (s .args .row .now) (s .args .fb) (s .args .x .now)
+    (s .args .fa .order - 1) (r .undo-all-beside .last .1 .1 .1 .1 .1 .1 .1 .0)
+others c =
+    let r = c .before .before in
+    let h = r .before .before .before .before .before .before .pre .0 in
+    r .undo-all-beside .ensures .through (not-false _ (c .if1 .left)) h (no-rows h)
 
-returns-2 : tie.Need-returns-2 Inv-loop μ-loop
+undo-crossing-requires : tie.Need-undo-crossing-requires
+unfolding limitOf
+undo-crossing-requires c κs =
+    let a = others (c .before) in
+    let h = c .before .before .before .before .before .before .before .before .before .pre .0 in
+    (h .column, h .row, h .low1, h .low2, a .small, a .long)
+
+returns-2 : tie.Need-returns-2
+unfolding limitOf elementOf rowOrder
 returns-2 c =
-    let l = c .before in
-    let e : l .loop .s ≡ l .before .args .fa .order = omega arith in rows-all e (l .loop .inv .1)
+    let e = c .before .before in
+    let s = e .before .before .before .before .before .before .before .before in
+    let h = s .pre .0 in
+    row-last h (let l = h .low1 in omega arith) (others e) (last-row-undone (s .args .fa) (h .alike ∙ s .pre .1) (h .low1))
+    (c .undo-crossing .ensures)
 
 pub undo-single-rows-spec : {M : Type 1} → statement M
 undo-single-rows-spec =
     tie.close
-    (tie.spec Inv-loop μ-loop loop-holds nth-row-requires undo-single-row-requires returns add-s loop-less loop-again returns-2)
+    (tie.spec lay-signs-requires lay-entries-requires undo-all-beside-requires returns undo-crossing-requires returns-2)

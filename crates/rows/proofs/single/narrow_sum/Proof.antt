@@ -1,10 +1,9 @@
 -- The sum so far is the sum of the first j terms; each term and each sum is small (`narrow-small`).
 use mathlib.Core.Path.{_≡_, refl}
-use Prim.Native.Nat.{_+_, _-_, _≤_}
+use Prim.Native.Nat.{_+_, _-_, _≤_, _<_}
 use native.Mathlib.Numerals.{add-one}
 use native.Mathlib.Omega.{arith}
 use lib.IntN.{_*ℤ_}
-use borrow.Author.Needs.{needs}
 use mir.Syntax.{w32, w64}
 use mir.Val.{ofZ}
 use Rattle.whole.specs.Machine.{fits, reads, within-+, within-*}
@@ -15,32 +14,32 @@ use Rattle.rows.proofs.single.narrow_sum.Statement.{statement}
 use Rattle.rows.proofs.single.narrow_sum.Tie as tie
 
 abbrev Inv-loop : tie.InvT-loop
-Inv-loop a p x k m sum₀ j₀ sum′ j = (j ≤ m) × (sum′ ≡ ofZ w64 (sum j (λ i. at a (p + i) *ℤ at x (k + i))))
+Inv-loop w x k n sum₀ j₀ sum′ j = (j ≤ n) × (sum′ ≡ ofZ w64 (sum j (λ i. at w i *ℤ at x (k + i))))
 
 abbrev μ-loop : tie.MeasureT-loop
-μ-loop a p x k m sum₀ j₀ sum′ j = m - j
+μ-loop w x k n sum₀ j₀ sum′ j = n - j
 
 loop-holds : tie.Need-loop-holds Inv-loop μ-loop
 unfolding sum
 loop-holds c = (omega arith, refl)
 
-add-with-term : tie.Need-add-with-term Inv-loop μ-loop
-add-with-term c = omega (arith, c .before .before .pre .room)
-
 mul-with-term : tie.Need-mul-with-term Inv-loop μ-loop
-mul-with-term c = omega (arith, c .before .before .pre .room)
-
-shared-slice-copy-out-with-term : tie.Need-shared-slice-copy-out-with-term Inv-loop μ-loop
-shared-slice-copy-out-with-term c = omega (arith, c .before .before .pre .room)
-
-add-with-term-2 : tie.Need-add-with-term-2 Inv-loop μ-loop
-add-with-term-2 c = omega (arith, c .before .before .before .pre .places)
-
-mul-with-term-2 : tie.Need-mul-with-term-2 Inv-loop μ-loop
-mul-with-term-2 c = omega (arith, c .before .before .before .pre .places)
+mul-with-term c = omega (arith, c .before .before .pre .few)
 
 element-copy-out-with-term : tie.Need-element-copy-out-with-term Inv-loop μ-loop
-element-copy-out-with-term c = let h = c .before .before .before .pre .places in search needs
+element-copy-out-with-term c = let h = c .before .before .pre .few in let l = c .loop-test .taken in omega arith
+
+place : (c : tie.In-loop Inv-loop μ-loop) → c .before .before .args .k + c .before .loop .j < 256
+place c = let h = c .before .before .pre .places in let l = c .loop-test .taken in omega arith
+
+add-with-term : tie.Need-add-with-term Inv-loop μ-loop
+add-with-term c = let h = place (c .before) in omega arith
+
+mul-with-term-2 : tie.Need-mul-with-term-2 Inv-loop μ-loop
+mul-with-term-2 c = let h = place (c .before) in omega arith
+
+element-copy-out-with-term-2 : tie.Need-element-copy-out-with-term-2 Inv-loop μ-loop
+element-copy-out-with-term-2 c = place (c .before)
 
 with-term-requires : tie.Need-with-term-requires Inv-loop μ-loop
 with-term-requires c κs =
@@ -72,11 +71,11 @@ returns : tie.Need-returns Inv-loop μ-loop
 returns c =
     let s = c .before .before in
     let l = c .before .loop in
-    let e : l .j ≡ s .args .m = omega arith in
+    let e : l .j ≡ s .args .n = omega arith in
     rw (l .inv .1, reads w64 (narrow-small (s .pre) (l .j) (l .inv .0)) tt, e)
 
 pub narrow-sum-spec : {M : Type 1} → statement M
 narrow-sum-spec =
     tie.close
-    (tie.spec Inv-loop μ-loop loop-holds add-with-term mul-with-term shared-slice-copy-out-with-term add-with-term-2
-    mul-with-term-2 element-copy-out-with-term with-term-requires add-j loop-less loop-again returns)
+    (tie.spec Inv-loop μ-loop loop-holds mul-with-term element-copy-out-with-term add-with-term mul-with-term-2
+    element-copy-out-with-term-2 with-term-requires add-j loop-less loop-again returns)

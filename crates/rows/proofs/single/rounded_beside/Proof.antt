@@ -1,50 +1,47 @@
--- The sum is small (`beside-small`), so it and its rounding fit 64 bits.
+-- The sum is small (`turned-sum-small`), so it and its rounding fit 64 bits.
 use borrow.Author.Needs.{needs}
 use mathlib.Core.Path.{_≡_, sym, ap₂, subst, _∙_}
 use lib.IntN.{_*ℤ_}
 use mir.Facts.{toZ-ofZ}
 use mir.Syntax.{w64}
 use mir.Val.{SFits, toZ, ofZ}
-use Rattle.whole.specs.Diff.{Within}
 use Rattle.whole.specs.Laws.{Sign}
-use Rattle.whole.specs.Machine.{fits, back, within-+, within-pos, within-sign}
-use Rattle.rules.specs.Numbers.{unit}
-use Rattle.factor.specs.Rounding.{rounded-within}
-use Rattle.rows.specs.SingleRows.{besideSum, mostBeside, beside-small}
+use Rattle.whole.specs.Machine.{fits, back, within-+, within-pos}
+use Rattle.rows.specs.SingleRows.{narrowSum, turned-sum-small, rounded-sum-small}
 use Rattle.rows.proofs.single.rounded_beside.Statement.{statement}
 use Rattle.rows.proofs.single.rounded_beside.Tie as tie
 
-beside-sum-requires : tie.Need-beside-sum-requires
-beside-sum-requires c κs = search needs
+narrow-sum-requires : tie.Need-narrow-sum-requires
+narrow-sum-requires c κs = search needs
 
-sum-is : (c : tie.After-beside-sum) → let s = c .before in
-    toZ w64 (ofZ w64 (c .beside-sum .result))
-    ≡ besideSum (s .args .row .now) (s .args .f) (s .args .j) (s .args .k) (s .args .x .now)
-sum-is c = back w64 _ (c .beside-sum .ok) ∙ c .beside-sum .ensures
-
-small : (s : tie.Start) →
-    Within mostBeside (s .args .d *ℤ besideSum (s .args .row .now) (s .args .f) (s .args .j) (s .args .k) (s .args .x .now))
-small s = within-sign (s .pre .1) (beside-small (s .pre .0))
+sum-is : (c : tie.After-narrow-sum) → let s = c .before in
+    toZ w64 (ofZ w64 (c .narrow-sum .result)) ≡ narrowSum (s .args .w .now) (s .args .x .now) (s .args .k) (s .args .n)
+sum-is c = back w64 _ (c .narrow-sum .ok) ∙ c .narrow-sum .ensures
 
 turned-requires : tie.Need-turned-requires
 turned-requires c κs =
     let s = c .before in
-    let e = toZ-ofZ (s .fits .d) in
-    (subst Sign (sym e) (s .pre .1), subst (SFits w64) (sym (ap₂ _*ℤ_ e (sum-is c))) (fits (small s) tt))
+    let e = toZ-ofZ (s .fits .d) in (
+      subst Sign (sym e) (s .pre .1),
+      subst (SFits w64) (sym (ap₂ _*ℤ_ e (sum-is c))) (fits (turned-sum-small (s .pre .0) (s .pre .1)) tt),
+    )
 
 value : (c : tie.After-turned) → let s = c .before .before in
     toZ w64 (ofZ w64 (c .turned .result))
-    ≡ s .args .d *ℤ besideSum (s .args .row .now) (s .args .f) (s .args .j) (s .args .k) (s .args .x .now)
+    ≡ s .args .d *ℤ narrowSum (s .args .w .now) (s .args .x .now) (s .args .k) (s .args .n)
 value c =
-    back w64 _ (c .turned .ok) ∙ c .turned .ensures ∙ ap₂ _*ℤ_ (toZ-ofZ (c .before .before .fits .d)) (sum-is (c .before))
+    back w64 _ (c .turned .ok) ∙ c .turned .ensures
+    ∙ ap₂ _*ℤ_ (toZ-ofZ (c .before .before .fits .d)) (sum-is (c .before))
 
 round-line-requires : tie.Need-round-line-requires
 round-line-requires c κs =
     let s = c .before .before in
-    rw (value c) (fits (within-+ (small s) (within-pos 2048)) tt, fits (rounded-within (s .args .rule) unit (small s)) tt)
+    let a = s .pre .0 in
+    let g = s .pre .1 in
+    rw (value c) (fits (within-+ (turned-sum-small a g) (within-pos 2048)) tt, fits (rounded-sum-small a g (s .args .rule)) tt)
 
 returns : tie.Need-returns
 returns c = back w64 _ (c .round-line .ok) ∙ c .round-line .ensures ∙ rw (value (c .before))
 
 pub rounded-beside-spec : {M : Type 1} → statement M
-rounded-beside-spec = tie.close (tie.spec beside-sum-requires turned-requires round-line-requires returns)
+rounded-beside-spec = tie.close (tie.spec narrow-sum-requires turned-requires round-line-requires returns)

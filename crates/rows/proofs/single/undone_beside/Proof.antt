@@ -4,54 +4,48 @@ use lib.IntN.{_*ℤ_}
 use mir.Facts.{toZ-ofZ}
 use mir.Syntax.{w32, w64}
 use mir.Val.{toZ, ofZ}
-use Rattle.whole.specs.Laws.{Sign, signs-times}
-use Rattle.whole.specs.Machine.{fits, back, sign-within, within-sign, within--}
-use Rattle.rules.specs.Numbers.{unit}
+use Rattle.whole.specs.Laws.{Sign}
+use Rattle.whole.specs.Machine.{fits, back, within-sign, within--}
+use Rattle.rules.specs.Numbers.{unit, at}
 use Rattle.rules.specs.Stages.{R}
-use Rattle.joint.specs.Elements.{signAt}
-use Rattle.rows.specs.SingleRows.{besideSum, undoneBeside, beside-rounded-small}
+use Rattle.rows.specs.SingleRows.{narrowSum, undoneBeside, sign-asks, both-sign, rounded-sum-small}
 use Rattle.rows.proofs.single.undone_beside.Statement.{statement}
 use Rattle.rows.proofs.single.undone_beside.Tie as tie
 
-sign-at-requires : tie.Need-sign-at-requires
-sign-at-requires c κs = (c .pre .0 .sheet, c .pre .0 .column)
+sign-in-requires : tie.Need-sign-in-requires
+sign-in-requires c κs = rw (toZ-ofZ (c .fits .d)) (sign-asks (c .pre .0) (c .args .q) (c .pre .2))
 
-product : (s : tie.Start) → Sign (s .args .d *ℤ signAt (s .args .row .now) (s .args .f) (s .args .f .row))
-product s = signs-times (s .pre .1) (s .pre .0 .sheet .sign (s .args .f .row) (s .pre .0 .column))
+product : (s : tie.Start) → Sign (s .args .d *ℤ at (s .args .g .now) (s .args .q))
+product s = both-sign (s .pre .0) (s .args .q) (s .pre .2)
 
-sign : (c : tie.After-sign-at) → let s = c .before in
-    toZ w32 (ofZ w32 (c .sign-at .result)) ≡ signAt (s .args .row .now) (s .args .f) (s .args .f .row)
-sign c = back w32 _ (c .sign-at .ok) ∙ c .sign-at .ensures
-
-both-signs-requires : tie.Need-both-signs-requires
-both-signs-requires c κs = rw (sign c, toZ-ofZ (c .before .fits .d)) (fits (sign-within (product (c .before))) tt)
-
-signs : (c : tie.After-both-signs) → let s = c .before .before in
-    toZ w32 (ofZ w32 (c .both-signs .result)) ≡ s .args .d *ℤ signAt (s .args .row .now) (s .args .f) (s .args .f .row)
-signs c = back w32 _ (c .both-signs .ok) ∙ c .both-signs .ensures ∙ rw (sign (c .before), toZ-ofZ (c .before .before .fits .d))
+sign : (c : tie.After-sign-in) → let s = c .before in
+    toZ w32 (ofZ w32 (c .sign-in .result)) ≡ s .args .d *ℤ at (s .args .g .now) (s .args .q)
+sign c = back w32 _ (c .sign-in .ok) ∙ c .sign-in .ensures ∙ rw (toZ-ofZ (c .before .fits .d))
 
 rounded-beside-requires : tie.Need-rounded-beside-requires
-rounded-beside-requires c κs = let s = c .before .before in rw (toZ-ofZ (s .fits .d)) (s .pre .0, s .pre .1)
+rounded-beside-requires c κs = let s = c .before in rw (toZ-ofZ (s .fits .d)) (s .pre .1, s .pre .0 .sign)
 
-rounded : (c : tie.After-rounded-beside) → let s = c .before .before .before in
-    toZ w64 (ofZ w64 (c .rounded-beside .result)) ≡ R (s .args .rule) unit (s .args .d *ℤ besideSum (s .args .row .now)
-    (s .args .f) (s .args .f .row) (s .args .k) (s .args .x .now))
+rounded : (c : tie.After-rounded-beside) → let s = c .before .before in
+    toZ w64 (ofZ w64 (c .rounded-beside .result))
+    ≡ R (s .args .rule) unit (s .args .d *ℤ narrowSum (s .args .w .now) (s .args .x .now) (s .args .k) (s .args .n))
 rounded c =
-    back w64 _ (c .rounded-beside .ok) ∙ c .rounded-beside .ensures ∙ rw (toZ-ofZ (c .before .before .before .fits .d))
+    back w64 _ (c .rounded-beside .ok) ∙ c .rounded-beside .ensures ∙ rw (toZ-ofZ (c .before .before .fits .d))
 
 undone-requires : tie.Need-undone-requires
 undone-requires c κs =
-    let s = c .before .before .before in
+    let s = c .before .before in
     let e = product s in
-    let y = s .pre .2 in
-    let q = within-- y (beside-rounded-small (s .pre .0) (s .pre .1) (s .args .rule)) in
-    rw (rounded c, signs (c .before), toZ-ofZ (s .fits .y)) (e, fits y tt, fits q tt, fits (within-sign e q) tt)
+    let y = s .pre .3 in
+    let q = within-- y (rounded-sum-small (s .pre .1) (s .pre .0 .sign) (s .args .rule)) in
+    rw (rounded c, sign (c .before), toZ-ofZ (s .fits .y)) (e, fits y tt, fits q tt, fits (within-sign e q) tt)
 
 returns : tie.Need-returns
 unfolding undoneBeside
 returns c =
-    let s = c .before .before .before .before in
-    back w64 _ (c .undone .ok) ∙ c .undone .ensures ∙ rw (rounded (c .before), signs (c .before .before), toZ-ofZ (s .fits .y))
+    let s = c .before .before .before in
+    back w64 _ (c .undone .ok) ∙ c .undone .ensures ∙ rw (rounded (c .before), sign (c .before .before), toZ-ofZ (s .fits .y))
 
 pub undone-beside-spec : {M : Type 1} → statement M
-undone-beside-spec = tie.close (tie.spec sign-at-requires both-signs-requires rounded-beside-requires undone-requires returns)
+undone-beside-spec =
+    tie.close
+    (tie.spec sign-in-requires rounded-beside-requires undone-requires returns)
