@@ -1,7 +1,7 @@
 // The sum of a joint stage in two steps, in 64 bits: the sums V over the columns for a row of the block, and a sum over V.
+ghost use mathlib.Core.Bool.{true};
 ghost use mathlib.Core.Path.{_≡_};
 ghost use Prim.Native.Nat.{_+_, _*_, _%_, _≤_};
-ghost use mathlib.Core.Bool.{true};
 ghost use lib.IntN.{pos, _+ℤ_, _-ℤ_, _*ℤ_};
 ghost use lib.ListN.{replicate};
 ghost use mir.Syntax.{w64};
@@ -78,7 +78,7 @@ fn put_four(t: &[i64; 16], v: &mut [i64; 16], c: usize)
     v[c + 3] = t[3];
 }
 
-// Whether the sums of n columns are made four columns at a time: beyond `most` columns, and where n is a multiple of four.
+// Whether the sums of n columns are made four columns at a time: if there are more than `most`, and n is a multiple of four.
 fn is_by_fours(n: usize, most: usize) -> bool
     ensures { λ r. ⌜ (r ≡ true → n % 4 ≡ 0) ⌝ }
 {
@@ -109,7 +109,7 @@ fn sums_by_fours(
     }
 }
 
-// The same for any n. Small, so that the compiler puts it in where n is a literal: then up to eight sums stay in registers.
+// The same for any n. It is small, so that the compiler puts it in where n is a literal: up to eight sums stay in registers then.
 pub fn side_sums(
     a: &[i32],
     p: usize,
@@ -154,7 +154,7 @@ fn sums_by_fours_with(
     }
 }
 
-// The same for any n; small as well.
+// The same for any n, and small too. Eight columns are faster by fours here.
 pub fn side_sums_with(
     a: &[i32],
     p: usize,

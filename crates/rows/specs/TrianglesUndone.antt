@@ -6,8 +6,11 @@ use mathlib.Core.Path.{_≡_, refl, sym, ap, _∙_}
 use Prim.Native.Nat.{ℕ, zero, suc, _+_, _-_, _*_, _≤_, _<_}
 use native.Mathlib.Numerals.{add-one}
 use native.Mathlib.Omega.{arith}
-use lib.IntN.{ℤ, pos, _+ℤ_}
-use lib.ListN.{length}
+use lib.Dec.{leb}
+use lib.IntN.{ℤ, pos, natAbs, _+ℤ_, _*ℤ_}
+use lib.ListN.{length, set, length-set}
+use Rattle.whole.specs.Diff.{Within}
+use Rattle.whole.specs.Machine.{within-le}
 use Rattle.whole.specs.Sum.{sum, sum-first}
 use Rattle.laws.specs.Tests.{apart}
 use Rattle.rules.specs.declared.Rule.{Rule}
@@ -16,15 +19,17 @@ use Rattle.rules.specs.Factors.{above}
 use Rattle.rules.specs.Numbers.{unit, bound, at}
 use Rattle.rules.specs.Laws.Lists.{length-fill}
 use Rattle.factor.specs.declared.Layout.{Layout}
-use Rattle.factor.specs.SumBounds.{Bounded, bounded-le}
+use Rattle.factor.specs.SumBounds.{Bounded, bounded-le, bounded-set}
 use Rattle.factor.specs.LayoutInSheet.{InSheet, row-wide}
 use Rattle.factor.specs.UndoingOrder.{nthUndone}
-use Rattle.factor.specs.InPlace.{inPlace}
+use Rattle.factor.specs.InPlace.{inPlace, length-in-place}
 use Rattle.joint.specs.Sums.{Wide, mostColumn, restSums, rest-sums-small}
-use Rattle.joint.specs.Elements.{signAt, restSumsAt, undoneFrom, roundedRest, undoneRest, undoneOf}
-use Rattle.rows.specs.RowsInPlace.{RowAsks, RowDone, inRow, onward, run-both, run-short}
+use Rattle.joint.specs.Elements.{signAt, diagonalOf, restSumsAt, undoneFrom, roundedRest, undoneRest, undoneOf}
+use Rattle.rows.specs.RowsInPlace.{RowAsks, RowDone, inRow, onward, run-both, run-short, run-next, run-stops}
+use Rattle.rows.specs.RowsInPlace.{undone-here, in-block}
 use Rattle.rows.specs.Triangles.{totalOf}
-use Rattle.rows.specs.RecoveredSums.{RecoveredSums, recovered-sums-start}
+use Rattle.rows.specs.RecoveredSums.{RecoveredSums, recovered-sums-start, recovered-sums-next, recovered-sums-small}
+use Rattle.rows.specs.RecoveredSums.{recovered-sums-undo}
 
 -- ---- definitions
 -- the largest own term
@@ -61,6 +66,13 @@ abbrev pub RunUndone : Rule → List ℤ → Layout → List ℤ → Layout → 
 RunUndone rule c fa r fb i a b x y v ok =
     RowDone bound (undoneOf rule c fa r fb) (onward (undoneTurn fb i) a) (b - a) x y ok
     × (ok ≡ true → Recovered c fa i fb b y v)
+
+-- a run from turn a on stands before turn t, x₀ the block before it
+pub record Undoing (rule : Rule) (c : List ℤ) (fa : Layout) (r : List ℤ) (fb : Layout) (i a t : ℕ) (x₀ x v : List ℤ) : Type 0 where
+  pub from : a ≤ t
+  pub block : x ≡ inPlace (undoneOf rule c fa r fb) (onward (undoneTurn fb i) a) (t - a) x₀
+  pub small : Bounded bound x
+  pub recovered : Recovered c fa i fb t x v
 
 -- t turns of row i are done, x the block before it, y and v as they are now
 pub record UndoneTo (rule : Rule) (c : List ℤ) (fa : Layout) (r : List ℤ) (fb : Layout) (i : ℕ) (x : List ℤ) (t : ℕ)
@@ -197,3 +209,69 @@ module _ {rule : Rule} {c r x : List ℤ} {fa fb : Layout} {i : ℕ} where
     -- turn b is the last
     pub undone-all : fb .order ≡ b → RowDone bound (undoneOf rule c fa r fb) (undoneTurn fb i) (fb .order) x z ok
     undone-all e = run-both (undoneTurn fb i) a b e l (h .done) (k .0)
+
+-- ---- the turns of a run
+pub undoing-starts : {rule : Rule} {c r x v : List ℤ} {fa fb : Layout} {i a : ℕ} → UndoGiven c fa r fb i a x v →
+    Undoing rule c fa r fb i a a x x v
+unfolding inPlace
+undoing-starts {a} g =
+    let z : a - a ≡ 0 = omega arith in
+    record { from = omega arith; block = rw z; small = g .small; recovered = g .recovered }
+
+module _ {rule : Rule} {c r x₀ v₀ x v : List ℤ} {fa fb : Layout} {i a t : ℕ} (g : UndoGiven c fa r fb i a x₀ v₀)
+    (h : Undoing rule c fa r fb i a t x₀ x v) where
+  keeps : length x ≡ length x₀
+  keeps = ap length (h .block) ∙ length-in-place _ _ (t - a) _
+
+  pub undoing-ends : (b : ℕ) → t ≡ b → RunUndone rule c fa r fb i a b x₀ x v true
+  undoing-ends b e =
+      (record { through = λ w. (rw e at (h .block), h .small); stopped = λ w. apart w; keeps = keeps }, λ w. rw e at (h .recovered))
+
+  -- turn t is that of the element in column j
+  module _ (l : t < fb .order) {j : ℕ} (k : j < fb .order) (q : nthUndone (fb .kind) (fb .order) (fb .row) t ≡ j) where
+    -- what the element was
+    abbrev element : ℤ
+    element = undoneOf rule c fa r fb x (i * fb .order + j)
+
+    pub undoing-value : undoneFrom rule (totalOf r fb j v) (signAt c fa i) (signAt r fb j) (at x (i * fb .order + j))
+        ≡ undoneOf rule c fa r fb x (i * fb .order + j)
+    undoing-value =
+        undone-from rule r fb j (signAt c fa i) v (at x (i * fb .order + j))
+        ∙ (rw q at
+        (recovered-sums-undo c fa i fb (g .low) (g .row .order) (g .column) (g .below) t l (h .recovered .sums) (g .row) rule))
+        ∙ sym (undone-here rule c fa r fb x i j k)
+
+    pub undoing-stops : (b : ℕ) {w : List ℤ} → t < b → leb (natAbs (undoneOf rule c fa r fb x (i * fb .order + j))) bound ≡ false →
+        RunUndone rule c fa r fb i a b x₀ x w false
+    undoing-stops b m far = (
+      record {
+        through = λ e. apart (sym e);
+        stopped = λ e. run-stops _ (undoneTurn fb i) a b t x₀ (h .from) m (h .block) (rw q far);
+        keeps = keeps;
+      },
+      λ e. apart (sym e),
+    )
+
+    pub undoing-next : Within bound (undoneOf rule c fa r fb x (i * fb .order + j)) →
+        Undoing rule c fa r fb i a (t + 1) x₀ (set x (i * fb .order + j) (undoneOf rule c fa r fb x (i * fb .order + j)))
+        (set v j (at v j +ℤ (diagonalOf (signAt c fa i) *ℤ undoneOf rule c fa r fb x (i * fb .order + j))))
+    undoing-next m =
+        let d = h .recovered in
+        let room = in-block j (g .column .order) (g .row .order) (g .below) k in
+        record {
+          from = let d = h .from in omega arith;
+          block = rw q at (run-next _ (undoneTurn fb i) a t x₀ (h .from) (h .block));
+          small = bounded-set x (i * fb .order + j) (h .small) m;
+          recovered = record {
+            sums =
+                rw q at
+                (recovered-sums-next c fa i fb (g .low) (g .row .order) (g .column) (g .below) t l (d .sums) element
+                (rw q (omega (arith, room, keeps, g .long))) (d .long));
+            small =
+                bounded-set v j (d .small)
+                (rw q at
+                (recovered-sums-small c fa i fb (g .low) (g .row .order) (g .column) (g .below) t l (d .sums)
+                (bounded-le (omega arith) (h .small)) (within-le (omega arith) m)));
+            long = length-set v j _ ∙ d .long;
+          };
+        }

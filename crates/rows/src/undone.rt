@@ -1,10 +1,8 @@
 // A row of elements under a lower or an upper factor, undone. The number recovered just before comes into a sum last, and from a
 // variable of its own: read back from the sums at once, it would be waited for.
-ghost use mathlib.Core.Bool.{true};
 ghost use mathlib.Core.Path.{_≡_};
 ghost use Prim.Native.Nat.{suc, _+_, _-_, _≤_, _<_};
 ghost use lib.IntN.{_+ℤ_, _*ℤ_};
-ghost use lib.ListN.{length};
 ghost use Rattle.whole.specs.Diff.{Within};
 ghost use Rattle.whole.specs.Sum.{sum};
 ghost use Rattle.rules.specs.declared.Kind.the-variants.{Lower, Upper};
@@ -13,9 +11,9 @@ ghost use Rattle.factor.specs.Layouts.{rowOf};
 ghost use Rattle.factor.specs.SumBounds.{Bounded};
 ghost use Rattle.joint.specs.Sums.{Wide, mostColumn};
 ghost use Rattle.joint.specs.Elements.{undoneOf};
-ghost use Rattle.rows.specs.RowsInPlace.{RowAsks, RowDone, onward};
+ghost use Rattle.rows.specs.RowsInPlace.{RowAsks, RowDone};
 ghost use Rattle.rows.specs.Triangles.{TotalGiven, totalOf};
-ghost use Rattle.rows.specs.TrianglesUndone.{mostOwn, recentOf, UndoGiven, Recovered, undoneTurn};
+ghost use Rattle.rows.specs.TrianglesUndone.{mostOwn, recentOf, UndoGiven, undoneTurn, RunUndone};
 use crate::sums::lower_rest_sums;
 use crate::sums::upper_rest_sums;
 use factor::Layout;
@@ -107,9 +105,8 @@ fn undo_lower(
 ) -> Outcome
     requires { ⌜ UndoGiven (now col) fa (now row) fb i from (now x) (now v) × (fb .kind ≡ Lower) × (from < to)
         × (to ≤ fb .order) ⌝ }
-    ensures { λ r. ⌜ RowDone bound (undoneOf rule (now (col .entry)) fa (now (row .entry)) fb) (onward (undoneTurn fb i) from)
-        (to - from) (now (x .entry)) (now (x .exit)) (r .ok)
-        × (r .ok ≡ true → Recovered (now (col .entry)) fa i fb to (now (x .exit)) (now (v .exit))) ⌝ }
+    ensures { λ r. ⌜ RunUndone rule (now (col .entry)) fa (now (row .entry)) fb i from to (now (x .entry)) (now (x .exit))
+        (now (v .exit)) (r .ok) ⌝ }
 {
     let n = fb.order;
     let entries = fb.entries;
@@ -161,9 +158,8 @@ fn undo_upper(
 ) -> Outcome
     requires { ⌜ UndoGiven (now col) fa (now row) fb i from (now x) (now v) × (fb .kind ≡ Upper) × (from < to)
         × (to ≤ fb .order) × (n ≡ fb .order) ⌝ }
-    ensures { λ r. ⌜ RowDone bound (undoneOf rule (now (col .entry)) fa (now (row .entry)) fb) (onward (undoneTurn fb i) from)
-        (to - from) (now (x .entry)) (now (x .exit)) (r .ok)
-        × (r .ok ≡ true → Recovered (now (col .entry)) fa i fb to (now (x .exit)) (now (v .exit))) ⌝ }
+    ensures { λ r. ⌜ RunUndone rule (now (col .entry)) fa (now (row .entry)) fb i from to (now (x .entry)) (now (x .exit))
+        (now (v .exit)) (r .ok) ⌝ }
 {
     let wide = fb.order;
     let entries = fb.entries;

@@ -4,32 +4,27 @@ use mathlib.Core.Path.{_≡_, sym, ap, _∙_}
 use Prim.Native.Nat.{ℕ, _+_, _-_, _*_, _≤_, _<_}
 use native.Mathlib.Omega.{arith}
 use lib.IntN.{ℤ, _+ℤ_, _*ℤ_}
-use lib.ListN.{length, set, length-set}
 use mir.Syntax.{w32, w64}
 use mir.Val.{toZ, ofZ}
 use Rattle.whole.specs.Diff.{Within}
 use Rattle.whole.specs.Machine.{fits, reads, back, within-le}
-use Rattle.laws.specs.Tests.{apart}
 use Rattle.rules.specs.Numbers.{bound, at}
 use Rattle.rules.specs.Laws.Lists.{set-at}
 use Rattle.factor.specs.Layouts.{rowOf}
-use Rattle.factor.specs.SumBounds.{Bounded, bounded-le, bounded-set, test-no, test-yes}
+use Rattle.factor.specs.SumBounds.{test-no, test-yes}
 use Rattle.factor.specs.UndoingOrder.{nthUndone}
-use Rattle.factor.specs.InPlace.{inPlace, length-in-place}
 use Rattle.joint.specs.Elements.{signAt, diagonalOf, undoneOf, rest-element-small}
-use Rattle.rows.specs.RecoveredSums.{recovered-sums-next, recovered-sums-small, recovered-sums-undo}
-use Rattle.rows.specs.RowsInPlace.{onward, run-next, run-stops, undone-here, in-block}
+use Rattle.rows.specs.RowsInPlace.{in-block}
 use Rattle.rows.specs.Triangles.{totalOf, lower-at, lower-left, lower-next}
-use Rattle.rows.specs.TrianglesUndone.{recentOf, Recovered, undoneTurn, recent-next, lower-turn, undone-from}
+use Rattle.rows.specs.TrianglesUndone.{recentOf, recent-next, lower-turn}
+use Rattle.rows.specs.TrianglesUndone.{Undoing, undoing-starts, undoing-value, undoing-stops, undoing-next, undoing-ends}
 use Rattle.rows.proofs.undone.undo_lower.Statement.{statement}
 use Rattle.rows.proofs.undone.undo_lower.Tie as tie
 
 abbrev Inv-loop : tie.InvT-loop
 Inv-loop rule col fa row fb i from to v₀ x₀ n entries k p₀ last₀ j₀ v x p last j =
-    (from ≤ j) × (j ≤ to)
-    × (x ≡ inPlace (undoneOf rule col fa row fb) (onward (undoneTurn fb i) from) (j - from) x₀)
-    × Bounded bound x
-    × Recovered col fa i fb j x v
+    (j ≤ to)
+    × Undoing rule col fa row fb i from j x₀ x v
     × (p ≡ rowOf fb j .at)
     × (toZ w64 last ≡ recentOf v (λ t. t) j)
 
@@ -71,18 +66,10 @@ left-of-requires c κs =
     (omega arith, s .pre .0 .recovered .small)
 
 loop-holds : tie.Need-loop-holds Inv-loop μ-loop
-unfolding inPlace
 loop-holds c =
     let s = c .before .before .before in
-    let z : s .args .from - s .args .from ≡ 0 = omega arith in (
-      omega arith,
-      (let a = s .pre .2 in omega arith),
-      rw z,
-      s .pre .0 .small,
-      s .pre .0 .recovered,
-      first-at (c .before .before),
-      back w64 _ (c .left-of .ok) ∙ c .left-of .ensures,
-    )
+    let a = s .pre .2 in
+    (omega arith, undoing-starts (s .pre .0), first-at (c .before .before), back w64 _ (c .left-of .ok) ∙ c .left-of .ensures)
 
 -- the element in turn is one of the row
 inside : (c : tie.In-loop Inv-loop μ-loop) → c .before .loop .j < S c .args .fb .order
@@ -95,7 +82,7 @@ lower-total-requires : tie.Need-lower-total-requires Inv-loop μ-loop
 lower-total-requires c κs =
     let i = c .before .before in
     let l = i .before .loop in
-    ((S i .pre .0 .row, inside i, l .inv .4 .small), S i .pre .1, l .inv .5, l .inv .6)
+    ((S i .pre .0 .row, inside i, l .inv .1 .recovered .small), S i .pre .1, l .inv .2, l .inv .3)
 
 sign-at-requires-2 : tie.Need-sign-at-requires-2 Inv-loop μ-loop
 sign-at-requires-2 c κs = let i = c .before .before .before in (S i .pre .0 .row, inside i)
@@ -135,7 +122,7 @@ sign : (c : tie.After-sign-at2 Inv-loop μ-loop) →
 sign c = back w32 _ (c .sign-at2 .ok) ∙ c .sign-at2 .ensures
 
 number : (c : tie.In-loop Inv-loop μ-loop) → toZ w32 (ofZ w32 (at (c .before .loop .x) (P c))) ≡ at (c .before .loop .x) (P c)
-number c = reads w32 (c .before .loop .inv .3 .small _) tt
+number c = reads w32 (c .before .loop .inv .1 .small .small _) tt
 
 undone-whole-requires : tie.Need-undone-whole-requires Inv-loop μ-loop
 undone-whole-requires c κs =
@@ -143,10 +130,10 @@ undone-whole-requires c κs =
     let g = S i .pre .0 in
     let l = i .before .loop in
     rw (total (c .before .before), row-sign (c .before .before .before .before), sign (c .before), number i) (
-      rest-element-small (g .row) (l .j) (inside i) (l .inv .4 .small),
+      rest-element-small (g .row) (l .j) (inside i) (l .inv .1 .recovered .small),
       g .column .sign (S i .args .i) (g .below),
       g .row .sign (l .j) (inside i),
-      l .inv .3 .small _,
+      l .inv .1 .small .small _,
     )
 
 -- what it was
@@ -164,9 +151,6 @@ value :
     .before .before .before)
 value c =
     let i = c .before .before .before .before .before .before in
-    let a = S i .args in
-    let g = S i .pre .0 in
-    let l = i .before .loop in
     back w64 _ (c .undone-whole .ok) ∙ c .undone-whole .ensures
     ∙ rw (
       total (c .before .before .before),
@@ -174,11 +158,7 @@ value c =
       sign (c .before .before),
       number i,
     )
-    (undone-from (a .rule) (a .row .now) (a .fb) (l .j) (D i) (l .v) (at (l .x) (P i))
-    ∙ (rw (turn i) at (recovered-sums-undo (a .col .now) (a .fa) (a .i) (a .fb) (g .low) (g .row .order) (g .column) (g .below)
-    (l .j)
-    (inside i) (l .inv .4 .sums) (g .row) (a .rule)))
-    ∙ sym (undone-here (a .rule) (a .col .now) (a .fa) (a .row .now) (a .fb) (l .x) (a .i) (l .j) (inside i)))
+    (undoing-value (S i .pre .0) (i .before .loop .inv .1) (inside i) (inside i) (turn i))
 
 is-within-requires : tie.Need-is-within-requires Inv-loop μ-loop
 is-within-requires c κs = tt
@@ -186,19 +166,8 @@ is-within-requires c κs = tt
 returns : tie.Need-returns Inv-loop μ-loop
 returns c =
     let i = c .before .before .before .before .before .before .before .before in
-    let s = S i in
-    let l = i .before .loop in (
-      record {
-        through = λ e. apart (sym e);
-        stopped = λ e.
-            run-stops _ (undoneTurn (s .args .fb) (s .args .i)) (s .args .from) (s .args .to) (l .j) (s .args .x .now) (l .inv .0)
-            (i .loop-test .taken) (l .inv .2)
-            (rw (turn i) (test-no bound (value (c .before .before)) (c .before .is-within .ensures) (not-true _ (c .if1
-            .taken))));
-        keeps = ap length (l .inv .2) ∙ length-in-place _ _ (l .j - s .args .from) _;
-      },
-      λ e. apart (sym e),
-    )
+    undoing-stops (S i .pre .0) (i .before .loop .inv .1) (inside i) (inside i) (turn i) (S i .args .to) (i .loop-test .taken)
+    (test-no bound (value (c .before .before)) (c .before .is-within .ensures) (not-true _ (c .if1 .taken)))
 
 held : (c : tie.Else1 Inv-loop μ-loop) → Within bound (F (c .before .before .before .before .before .before .before .before))
 held c = test-yes bound (value (c .before .before)) (c .before .is-within .ensures) (not-false _ (c .if1 .left))
@@ -230,7 +199,7 @@ with-diagonal-requires c κs =
     let e = c .before in
     let i = e .before .before .before .before .before .before .before .before in
     let g = S i .pre .0 in
-    let v = i .before .loop .inv .4 .small .small (i .before .loop .j) in
+    let v = i .before .loop .inv .1 .recovered .small .small (i .before .loop .j) in
     rw (reads w64 v tt, row-sign (e .before .before .before .before .before .before .before), value (e .before .before))
     (within-le (omega arith) v, g .column .sign (S i .args .i) (g .below), within-le (omega arith) (held e))
 
@@ -246,7 +215,7 @@ sum-is c =
     let i = e .before .before .before .before .before .before .before .before in
     back w64 _ (c .with-diagonal .ok) ∙ c .with-diagonal .ensures
     ∙ rw (
-      reads w64 (i .before .loop .inv .4 .small .small (i .before .loop .j)) tt,
+      reads w64 (i .before .loop .inv .1 .recovered .small .small (i .before .loop .j)) tt,
       row-sign (e .before .before .before .before
           .before .before .before),
       value (e .before .before),
@@ -265,7 +234,7 @@ add-p-2 c =
     let l = i .before .loop in
     let r = s .pre .0 .row .row (l .j) (inside i) .room in
     let e = lower-left (s .args .fb) (l .j) (s .pre .1) in
-    let p = l .inv .5 in
+    let p = l .inv .2 in
     omega arith
 
 add-j : tie.Need-add-j Inv-loop μ-loop
@@ -276,68 +245,26 @@ add-j c =
 loop-less : tie.Need-loop-less Inv-loop μ-loop
 loop-less c = omega arith
 
-long : (c : tie.In-loop Inv-loop μ-loop) → length (c .before .loop .x) ≡ 256
-long c =
-    let l = c .before .loop in
-    ap length (l .inv .2) ∙ length-in-place _ _ (l .j - S c .args .from) _ ∙ S c .pre .0 .long
-
-next : (c : tie.In-loop Inv-loop μ-loop) → Within bound (F c) →
-    let a = S c .args in
-    let l = c .before .loop in
-    Recovered (a .col .now) (a .fa) (a .i) (a .fb) (l .j + 1) (set (l .x) (P c) (F c)) (set (l .v) (l .j) (G c))
-next c h =
-    let a = S c .args in
-    let g = S c .pre .0 in
-    let l = c .before .loop in
-    let r = l .inv .4 in
-    record {
-      sums =
-          rw (turn c) at (recovered-sums-next (a .col .now) (a .fa) (a .i) (a .fb) (g .low) (g .row .order) (g .column) (g
-          .below) (l .j)
-          (inside c) (r .sums) (F c) (rw (turn c) (let b = room c in omega (arith, long c))) (r .long));
-      small =
-          bounded-set (l .v) (l .j) (r .small) (rw (turn c) at (recovered-sums-small (a .col .now) (a .fa) (a .i) (a .fb) (g
-          .low)
-          (g .row .order) (g .column) (g .below) (l .j) (inside c) (r .sums) (bounded-le (omega arith) (l .inv .3)) (within-le
-          (omega arith) h)));
-      long = length-set (l .v) (l .j) _ ∙ r .long;
-    }
-
 loop-again : tie.Need-loop-again Inv-loop μ-loop
 loop-again c =
     let e = c .before .before in
     let i = e .before .before .before .before .before .before .before .before in
     let s = S i in
-    let l = i .before .loop in
-    let z = reads w32 (held e) tt in (
-      (let a = l .inv .0 in omega arith),
+    let l = i .before .loop in (
       (let h = i .loop-test .taken in omega arith),
-      rw (value (e .before .before), z)
-          (rw (turn i) at (run-next _ (undoneTurn (s .args .fb) (s .args .i)) (s .args .from) (l .j) (s .args .x .now) (l .inv
-          .0) (l .inv .2))),
-      rw (value (e .before .before), z) (bounded-set (l .x) (P i) (l .inv .3) (held e)),
-      rw (value (e .before .before), z, sum-is c) (next i (held e)),
-      ap (λ (z : ℕ). z + l .j) (l .inv .5) ∙ lower-next (s .args .fb) (l .j) (s .pre .1),
-      sum-is c ∙ sym (rw (sum-is c) (recent-next _ (λ t. t) (l .j) ∙ set-at (l .v) (l .j) (G i) (omega (
-        arith,
-        column i,
-        l .inv
-            .4 .long,
-      )))),
+      rw (value (e .before .before), reads w32 (held e) tt, sum-is c)
+          (undoing-next (S i .pre .0) (l .inv .1) (inside i) (inside i) (turn i) (held e)),
+      ap (λ (z : ℕ). z + l .j) (l .inv .2) ∙ lower-next (s .args .fb) (l .j) (s .pre .1),
+      sum-is c
+          ∙ sym (rw (sum-is c) (recent-next _ (λ t. t) (l .j)
+          ∙ set-at (l .v) (l .j) (G i) (omega (arith, column i, l .inv .1 .recovered .long)))),
     )
 
 returns-2 : tie.Need-returns-2 Inv-loop μ-loop
 returns-2 c =
     let s = c .before .before .before .before .before in
     let l = c .before .loop in
-    let e : l .j ≡ s .args .to = let a = l .inv .1 in omega arith in (
-      record {
-        through = λ t. (rw e at (l .inv .2), l .inv .3);
-        stopped = λ t. apart t;
-        keeps = ap length (l .inv .2) ∙ length-in-place _ _ (l .j - s .args .from) _;
-      },
-      λ t. rw e at (l .inv .4),
-    )
+    undoing-ends (s .pre .0) (l .inv .1) (s .args .to) (let a = l .inv .0 in omega arith)
 
 pub undo-lower-spec : {M : Type 1} → statement M
 undo-lower-spec =

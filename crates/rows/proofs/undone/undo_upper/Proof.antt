@@ -4,34 +4,29 @@ use mathlib.Core.Path.{_≡_, sym, ap, _∙_}
 use Prim.Native.Nat.{ℕ, suc, _+_, _-_, _*_, _≤_, _<_}
 use native.Mathlib.Omega.{arith}
 use lib.IntN.{ℤ, _+ℤ_, _*ℤ_}
-use lib.ListN.{length, set, length-set}
+use lib.ListN.{length, set}
 use mir.Syntax.{w32, w64}
 use mir.Val.{toZ, ofZ}
 use Rattle.whole.specs.Diff.{Within}
 use Rattle.whole.specs.Machine.{fits, reads, back, within-le}
-use Rattle.laws.specs.Tests.{apart}
 use Rattle.rules.specs.Numbers.{bound, at}
 use Rattle.rules.specs.Laws.Lists.{set-at}
 use Rattle.rules.specs.Factors.{above}
 use Rattle.factor.specs.Layouts.{rowOf}
-use Rattle.factor.specs.SumBounds.{Bounded, bounded-le, bounded-set, test-no, test-yes}
+use Rattle.factor.specs.SumBounds.{test-no, test-yes}
 use Rattle.factor.specs.UndoingOrder.{nthUndone}
-use Rattle.factor.specs.InPlace.{inPlace, length-in-place}
 use Rattle.joint.specs.Elements.{signAt, diagonalOf, undoneOf, rest-element-small}
-use Rattle.rows.specs.RecoveredSums.{recovered-sums-next, recovered-sums-small, recovered-sums-undo}
-use Rattle.rows.specs.RowsInPlace.{onward, run-next, run-stops, undone-here, in-block}
+use Rattle.rows.specs.RowsInPlace.{in-block}
 use Rattle.rows.specs.Triangles.{totalOf, upper-at, upper-left, upper-right}
-use Rattle.rows.specs.TrianglesUndone.{recentOf, Recovered, undoneTurn, recent-some}
-use Rattle.rows.specs.TrianglesUndone.{recent-next, upper-turn, undone-from, above-step}
+use Rattle.rows.specs.TrianglesUndone.{recentOf, recent-some, recent-next, upper-turn, above-step}
+use Rattle.rows.specs.TrianglesUndone.{Undoing, undoing-starts, undoing-value, undoing-stops, undoing-next, undoing-ends}
 use Rattle.rows.proofs.undone.undo_upper.Statement.{statement}
 use Rattle.rows.proofs.undone.undo_upper.Tie as tie
 
 abbrev Inv-loop : tie.InvT-loop
 Inv-loop rule col fa row fb n i from to v₀ x₀ wide entries k p₀ last₀ t₀ v x p last t =
-    (from ≤ t) × (t ≤ to)
-    × (x ≡ inPlace (undoneOf rule col fa row fb) (onward (undoneTurn fb i) from) (t - from) x₀)
-    × Bounded bound x
-    × Recovered col fa i fb t x v
+    (t ≤ to)
+    × Undoing rule col fa row fb i from t x₀ x v
     × (p ≡ fb .entries + above (fb .order) (fb .order - t))
     × (toZ w64 last ≡ recentOf v (λ u. n - suc u) t)
 
@@ -104,18 +99,10 @@ right-of-requires c κs =
     (omega arith, omega arith, s .pre .0 .recovered .small)
 
 loop-holds : tie.Need-loop-holds Inv-loop μ-loop
-unfolding inPlace
 loop-holds c =
     let s = c .before .before .before in
-    let z : s .args .from - s .args .from ≡ 0 = omega arith in (
-      omega arith,
-      (let a = s .pre .2 in omega arith),
-      rw z,
-      s .pre .0 .small,
-      s .pre .0 .recovered,
-      first-at (c .before .before),
-      back w64 _ (c .right-of .ok) ∙ c .right-of .ensures,
-    )
+    let a = s .pre .2 in
+    (omega arith, undoing-starts (s .pre .0), first-at (c .before .before), back w64 _ (c .right-of .ok) ∙ c .right-of .ensures)
 
 -- the column of this turn
 abbrev J : tie.In-loop Inv-loop μ-loop → ℕ
@@ -143,7 +130,7 @@ entries-at c =
     let g = above-step (s .args .fb .order) (l .t) (in-turn c) in
     let f = upper-at (s .args .fb) (J c) (s .pre .1) in
     let e : s .args .fb .order - 1 - l .t ≡ J c = let q = s .pre .4 in omega arith in
-    l .inv .5 ∙ (let k = rw e at g in omega arith)
+    l .inv .2 ∙ (let k = rw e at g in omega arith)
 
 sub-p : tie.Need-sub-p Inv-loop μ-loop
 sub-p c = let e = entries-at c in omega arith
@@ -156,11 +143,11 @@ upper-total-requires c κs =
     let i = c .before .before in
     let s = S i in
     let l = i .before .loop in (
-      (s .pre .0 .row, inside i, l .inv .4 .small),
+      (s .pre .0 .row, inside i, l .inv .1 .recovered .small),
       s .pre .1,
       (let e = entries-at i in omega arith),
       (let e = s .pre .4 in let h = in-turn i in omega arith),
-      λ some. l .inv .6 ∙ recent-some _ _ (l .t) (λ z. omega arith)
+      λ some. l .inv .3 ∙ recent-some _ _ (l .t) (λ z. omega arith)
           ∙ (let e : s .args .n - suc (l .t - 1) ≡ J i + 1 = let h = in-turn i in let q = s .pre .4 in omega arith in ap (at (l
           .v)) e),
     )
@@ -202,7 +189,7 @@ sign : (c : tie.After-sign-at2 Inv-loop μ-loop) →
 sign c = back w32 _ (c .sign-at2 .ok) ∙ c .sign-at2 .ensures
 
 number : (c : tie.In-loop Inv-loop μ-loop) → toZ w32 (ofZ w32 (at (c .before .loop .x) (P c))) ≡ at (c .before .loop .x) (P c)
-number c = reads w32 (c .before .loop .inv .3 .small _) tt
+number c = reads w32 (c .before .loop .inv .1 .small .small _) tt
 
 undone-whole-requires : tie.Need-undone-whole-requires Inv-loop μ-loop
 undone-whole-requires c κs =
@@ -210,10 +197,10 @@ undone-whole-requires c κs =
     let g = S i .pre .0 in
     let l = i .before .loop in
     rw (total (c .before .before), row-sign (c .before .before .before .before), sign (c .before), number i) (
-      rest-element-small (g .row) (J i) (inside i) (l .inv .4 .small),
+      rest-element-small (g .row) (J i) (inside i) (l .inv .1 .recovered .small),
       g .column .sign (S i .args .i) (g .below),
       g .row .sign (J i) (inside i),
-      l .inv .3 .small _,
+      l .inv .1 .small .small _,
     )
 
 -- what it was
@@ -232,9 +219,6 @@ value :
     .before .before .before)
 value c =
     let i = c .before .before .before .before .before .before in
-    let a = S i .args in
-    let g = S i .pre .0 in
-    let l = i .before .loop in
     back w64 _ (c .undone-whole .ok) ∙ c .undone-whole .ensures
     ∙ rw (
       total (c .before .before .before),
@@ -242,11 +226,7 @@ value c =
       sign (c .before .before),
       number i,
     )
-    (undone-from (a .rule) (a .row .now) (a .fb) (J i) (D i) (l .v) (at (l .x) (P i))
-    ∙ (rw (turn i) at (recovered-sums-undo (a .col .now) (a .fa) (a .i) (a .fb) (g .low) (g .row .order) (g .column) (g .below)
-    (l .t)
-    (in-turn i) (l .inv .4 .sums) (g .row) (a .rule)))
-    ∙ sym (undone-here (a .rule) (a .col .now) (a .fa) (a .row .now) (a .fb) (l .x) (a .i) (J i) (inside i)))
+    (undoing-value (S i .pre .0) (i .before .loop .inv .1) (in-turn i) (inside i) (turn i))
 
 is-within-requires : tie.Need-is-within-requires Inv-loop μ-loop
 is-within-requires c κs = tt
@@ -254,19 +234,8 @@ is-within-requires c κs = tt
 returns : tie.Need-returns Inv-loop μ-loop
 returns c =
     let i = c .before .before .before .before .before .before .before .before in
-    let s = S i in
-    let l = i .before .loop in (
-      record {
-        through = λ e. apart (sym e);
-        stopped = λ e.
-            run-stops _ (undoneTurn (s .args .fb) (s .args .i)) (s .args .from) (s .args .to) (l .t) (s .args .x .now) (l .inv .0)
-            (i .loop-test .taken) (l .inv .2)
-            (rw (turn i) (test-no bound (value (c .before .before)) (c .before .is-within .ensures) (not-true _ (c .if1
-            .taken))));
-        keeps = ap length (l .inv .2) ∙ length-in-place _ _ (l .t - s .args .from) _;
-      },
-      λ e. apart (sym e),
-    )
+    undoing-stops (S i .pre .0) (i .before .loop .inv .1) (in-turn i) (inside i) (turn i) (S i .args .to) (i .loop-test .taken)
+    (test-no bound (value (c .before .before)) (c .before .is-within .ensures) (not-true _ (c .if1 .taken)))
 
 held : (c : tie.Else1 Inv-loop μ-loop) → Within bound (F (c .before .before .before .before .before .before .before .before))
 held c = test-yes bound (value (c .before .before)) (c .before .is-within .ensures) (not-false _ (c .if1 .left))
@@ -298,7 +267,7 @@ with-diagonal-requires c κs =
     let e = c .before in
     let i = e .before .before .before .before .before .before .before .before in
     let g = S i .pre .0 in
-    let v = i .before .loop .inv .4 .small .small (J i) in
+    let v = i .before .loop .inv .1 .recovered .small .small (J i) in
     rw (reads w64 v tt, row-sign (e .before .before .before .before .before .before .before), value (e .before .before))
     (within-le (omega arith) v, g .column .sign (S i .args .i) (g .below), within-le (omega arith) (held e))
 
@@ -314,7 +283,7 @@ sum-is c =
     let i = e .before .before .before .before .before .before .before .before in
     back w64 _ (c .with-diagonal .ok) ∙ c .with-diagonal .ensures
     ∙ rw (
-      reads w64 (i .before .loop .inv .4 .small .small (J i)) tt,
+      reads w64 (i .before .loop .inv .1 .recovered .small .small (J i)) tt,
       row-sign (e .before .before .before .before .before
           .before .before),
       value (e .before .before),
@@ -333,33 +302,6 @@ add-t c =
 
 loop-less : tie.Need-loop-less Inv-loop μ-loop
 loop-less c = omega arith
-
-long : (c : tie.In-loop Inv-loop μ-loop) → length (c .before .loop .x) ≡ 256
-long c =
-    let l = c .before .loop in
-    ap length (l .inv .2) ∙ length-in-place _ _ (l .t - S c .args .from) _ ∙ S c .pre .0 .long
-
-next : (c : tie.In-loop Inv-loop μ-loop) → Within bound (F c) →
-    let a = S c .args in
-    let l = c .before .loop in
-    Recovered (a .col .now) (a .fa) (a .i) (a .fb) (l .t + 1) (set (l .x) (P c) (F c)) (set (l .v) (J c) (G c))
-next c h =
-    let a = S c .args in
-    let g = S c .pre .0 in
-    let l = c .before .loop in
-    let r = l .inv .4 in
-    record {
-      sums =
-          rw (turn c) at (recovered-sums-next (a .col .now) (a .fa) (a .i) (a .fb) (g .low) (g .row .order) (g .column) (g
-          .below) (l .t)
-          (in-turn c) (r .sums) (F c) (rw (turn c) (let b = room c in omega (arith, long c))) (r .long));
-      small =
-          bounded-set (l .v) (J c) (r .small) (rw (turn c) at (recovered-sums-small (a .col .now) (a .fa) (a .i) (a .fb) (g
-          .low)
-          (g .row .order) (g .column) (g .below) (l .t) (in-turn c) (r .sums) (bounded-le (omega arith) (l .inv .3)) (within-le
-          (omega arith) h)));
-      long = length-set (l .v) (J c) _ ∙ r .long;
-    }
 
 -- the row before it starts where its entries end
 next-at : (c : tie.In-loop Inv-loop μ-loop) →
@@ -383,32 +325,19 @@ loop-again : tie.Need-loop-again Inv-loop μ-loop
 loop-again c =
     let e = c .before .before in
     let i = e .before .before .before .before .before .before .before .before in
-    let s = S i in
-    let l = i .before .loop in
-    let z = reads w32 (held e) tt in (
-      (let a = l .inv .0 in omega arith),
+    let l = i .before .loop in (
       (let h = i .loop-test .taken in omega arith),
-      rw (value (e .before .before), z)
-          (rw (turn i) at (run-next _ (undoneTurn (s .args .fb) (s .args .i)) (s .args .from) (l .t) (s .args .x .now) (l .inv
-          .0) (l .inv .2))),
-      rw (value (e .before .before), z) (bounded-set (l .x) (P i) (l .inv .3) (held e)),
-      rw (value (e .before .before), z, sum-is c) (next i (held e)),
+      rw (value (e .before .before), reads w32 (held e) tt, sum-is c)
+          (undoing-next (S i .pre .0) (l .inv .1) (in-turn i) (inside i) (turn i) (held e)),
       next-at i,
-      sum-is c ∙ sym (rw (sum-is c) (recent-next _ _ (l .t) ∙ here i (l .inv .4 .long))),
+      sum-is c ∙ sym (rw (sum-is c) (recent-next _ _ (l .t) ∙ here i (l .inv .1 .recovered .long))),
     )
 
 returns-2 : tie.Need-returns-2 Inv-loop μ-loop
 returns-2 c =
     let s = c .before .before .before .before .before in
     let l = c .before .loop in
-    let e : l .t ≡ s .args .to = let a = l .inv .1 in omega arith in (
-      record {
-        through = λ t. (rw e at (l .inv .2), l .inv .3);
-        stopped = λ t. apart t;
-        keeps = ap length (l .inv .2) ∙ length-in-place _ _ (l .t - s .args .from) _;
-      },
-      λ t. rw e at (l .inv .4),
-    )
+    undoing-ends (s .pre .0) (l .inv .1) (s .args .to) (let a = l .inv .0 in omega arith)
 
 pub undo-upper-spec : {M : Type 1} → statement M
 undo-upper-spec =
