@@ -25,7 +25,7 @@ use Rattle.factor.specs.UndoingOrder.{nthUndone, undoing-permutes, undoing-reve
 use Rattle.factor.specs.InPlace.{inPlace, in-place-other}
 use Rattle.joint.specs.Sums.{SameRows}
 use Rattle.rows.specs.RowsInPlace.{rowOrder, elementOf}
-use Rattle.rows.specs.SingleRowsInPlace.{last-undone}
+use Rattle.singlerows.specs.SingleRowsInPlace.{last-undone}
 
 abbrev pub nthUndonePair : Layout → Layout → ℕ → ℕ
 nthUndonePair f g t =

@@ -3,18 +3,18 @@ ghost use mathlib.Core.Path.{_≡_};
 ghost use Prim.Native.Nat.{_-_, _<_};
 ghost use Rattle.rules.specs.declared.Kind.the-variants.{Single};
 ghost use Rattle.factor.specs.UndoingOrder.{nthUndone};
-ghost use Rattle.rows.specs.LaidRows.{Laid};
+ghost use Rattle.singlerows.specs.LaidRows.{Laid};
 ghost use Rattle.rectanglerun.specs.RowsInTurn.{Weighable, Weighed, TurnsDone};
 use factor::Layout;
 use factor::run::Outcome;
 use factor::run::Task;
-use rows::single::apply_beside;
-use rows::single::apply_crossing;
-use rows::single::lay_entries;
-use rows::single::lay_signs;
-use rows::single::undo_beside;
-use rows::single::undo_crossing;
 use rules::Rule;
+use singlerows::apply_beside;
+use singlerows::apply_crossing;
+use singlerows::lay_entries;
+use singlerows::lay_signs;
+use singlerows::undo_beside;
+use singlerows::undo_crossing;
 
 // The row that a single-row factor undoes in turn t: round from the row after r. The order of any kind would make the loops below
 // too large for the compiler to write them out.

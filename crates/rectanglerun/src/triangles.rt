@@ -5,11 +5,11 @@ ghost use Rattle.rectanglerun.specs.RowsInTurn.{Weighable, Weighed};
 use factor::Layout;
 use factor::run::Outcome;
 use factor::run::Task;
-use rows::applied::apply_lower_row;
-use rows::applied::apply_upper_row;
-use rows::undone::undo_lower_row;
-use rows::undone::undo_upper_row;
 use rules::Rule;
+use trianglerows::applied::apply_lower_row;
+use trianglerows::applied::apply_upper_row;
+use trianglerows::undone::undo_lower_row;
+use trianglerows::undone::undo_upper_row;
 
 // All rows under a lower factor, applied: a row looks at those above it, so the lowest comes first.
 pub fn apply_lower_rows(

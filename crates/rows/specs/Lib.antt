@@ -1,7 +1,3 @@
 pub mod RowsInPlace
 pub mod RecoveredSums
 pub mod Triangles
-pub mod TrianglesUndone
-pub mod SingleRows
-pub mod SingleRowsInPlace
-pub mod LaidRows

@@ -15,11 +15,6 @@ use joint::allowances::magnitude_sums_at;
 use rules::Block;
 use rules::Rule;
 
-mod sums; // the sums of a row under a lower or an upper factor
-pub mod applied; // a row under a lower or an upper factor, applied
-pub mod undone; // the same, undone
-pub mod single; // a row under single-row factors
-
 // The allowances of row i in place.
 pub fn allow_row(
     rule: Rule,

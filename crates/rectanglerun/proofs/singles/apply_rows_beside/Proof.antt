@@ -8,7 +8,7 @@ use native.Mathlib.Omega.{arith}
 use Rattle.factor.specs.declared.run.Task.the-variants.{Forward}
 use Rattle.factor.specs.Tasks.{limitOf}
 use Rattle.rows.specs.RowsInPlace.{elementOf, rowOrder}
-use Rattle.rows.specs.SingleRowsInPlace.{early-undone}
+use Rattle.singlerows.specs.SingleRowsInPlace.{early-undone}
 use Rattle.rectanglerun.specs.RowsInTurn.{Weighable, TurnsDone, turn-below, still, asks, no-turns, turns-more, turns-stop}
 use Rattle.rectanglerun.specs.UndoingOrder.{nthRow, single-applied}
 use Rattle.rectanglerun.proofs.singles.apply_rows_beside.Statement.{statement}

@@ -6,7 +6,7 @@ use native.Mathlib.Omega.{arith}
 use Rattle.factor.specs.declared.run.Task.the-variants.{Forward}
 use Rattle.factor.specs.Tasks.{limitOf}
 use Rattle.rows.specs.RowsInPlace.{elementOf, rowOrder}
-use Rattle.rows.specs.SingleRows.{one-row}
+use Rattle.singlerows.specs.SingleRows.{one-row}
 use Rattle.rectanglerun.specs.RowsInTurn.{Rows, no-rows, still, row-more, row-stops, turns-last}
 use Rattle.rectanglerun.specs.UndoingOrder.{nthRow, first-applied}
 use Rattle.rectanglerun.proofs.singles.apply_single_rows.Statement.{statement}

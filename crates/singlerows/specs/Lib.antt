@@ -1,0 +1,3 @@
+pub mod SingleRows
+pub mod SingleRowsInPlace
+pub mod LaidRows

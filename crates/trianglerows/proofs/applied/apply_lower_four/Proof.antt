@@ -1,0 +1,50 @@
+-- The sums are the row's, so the one run of four elements is the row (`asks-run`, `run-row`).
+use borrow.Author.Needs.{needs}
+use mathlib.Core.Path.{_≡_, sym, _∙_}
+use native.Mathlib.Omega.{arith}
+use mir.Syntax.{w32}
+use mir.Val.{toZ, ofZ}
+use Rattle.whole.specs.Machine.{back}
+use Rattle.joint.specs.Elements.{signAt}
+use Rattle.rows.specs.RowsInPlace.{run-all}
+use Rattle.rows.specs.Triangles.{asks-room, asks-sums, asks-run, run-row}
+use Rattle.trianglerows.proofs.applied.apply_lower_four.Statement.{statement}
+use Rattle.trianglerows.proofs.applied.apply_lower_four.Tie as tie
+
+sign-at-requires : tie.Need-sign-at-requires
+sign-at-requires c κs = search needs
+
+sign : (c : tie.After-sign-at) →
+    let s = c .before in
+    toZ w32 (ofZ w32 (c .sign-at .result)) ≡ signAt (s .args .col .now) (s .args .fa) (s .args .i)
+sign c = back w32 _ (c .sign-at .ok) ∙ c .sign-at .ensures
+
+lower-sums-requires : tie.Need-lower-sums-requires
+lower-sums-requires c κs =
+    let s = c .before .before .before in
+    (asks-sums (s .pre .0) (sym (s .pre .2)), s .pre .0 .alike ∙ s .pre .1)
+
+mul-apply-lower : tie.Need-mul-apply-lower
+mul-apply-lower c = let s = c .before .before .before .before .before in omega (arith, asks-room (s .pre .0) (sym (s .pre .2)))
+
+apply-lower-requires : tie.Need-apply-lower-requires
+apply-lower-requires c κs =
+    let a = c .before .before in
+    let d = a .before .before .before in
+    let s = d .before in (
+      asks-run (s .pre .0) (sym (s .pre .2)) (sign d) (a .lower-sums .ensures),
+      s .pre .1,
+      omega arith,
+      omega (arith, s .pre .2),
+    )
+
+returns : tie.Need-returns
+returns c =
+    let a = c .before .before .before in
+    let d = a .before .before .before in
+    let s = d .before in
+    run-row (s .pre .0) (sym (s .pre .2)) (sign d) (a .lower-sums .ensures) (s .args .rule)
+    (run-all _ 4 (s .pre .2) (c .apply-lower .ensures))
+
+pub apply-lower-four-spec : {M : Type 1} → statement M
+apply-lower-four-spec = tie.close (tie.spec sign-at-requires lower-sums-requires mul-apply-lower apply-lower-requires returns)

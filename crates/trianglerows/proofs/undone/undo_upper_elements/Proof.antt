@@ -1,0 +1,118 @@
+-- Each run goes on where the one before it ends (`undone-more`).
+use borrow.Author.Tests.{not-true, not-false}
+use mathlib.Core.Path.{refl, sym}
+use native.Mathlib.Omega.{arith}
+use Rattle.trianglerows.specs.TrianglesUndone.{undone-none, undone-more, undone-stops, undone-all}
+use Rattle.trianglerows.proofs.undone.undo_upper_elements.Statement.{statement}
+use Rattle.trianglerows.proofs.undone.undo_upper_elements.Tie as tie
+
+undo-upper-requires : tie.Need-undo-upper-requires
+undo-upper-requires c κs =
+    let t = c .before .before in
+    let s = t .before in
+    (s .pre .0, s .pre .1, omega arith, omega (arith, t .if1 .taken), sym (t .if1 .taken))
+
+returns : tie.Need-returns
+returns c =
+    let r1 = c .before .before in
+    let t = r1 .before .before .before in
+    let s = t .before in
+    let u0 = undone-none (s .pre .0) in
+    undone-stops 0 4 u0 (r1 .undo-upper .ensures) (omega arith) (not-true _ (c .if2 .taken)) (omega (arith, t .if1 .taken))
+
+undo-upper-requires-2 : tie.Need-undo-upper-requires-2
+undo-upper-requires-2 c κs =
+    let e1 = c .before .before in
+    let r1 = e1 .before .before in
+    let t = r1 .before .before .before in
+    let s = t .before in
+    let u0 = undone-none (s .pre .0) in
+    let u1 = undone-more 0 4 u0 (r1 .undo-upper .ensures) (omega arith) (not-false _ (e1 .if2 .left)) in
+    (u1 .given, s .pre .1, omega arith, omega (arith, t .if1 .taken), sym (t .if1 .taken))
+
+returns-2 : tie.Need-returns-2
+returns-2 c =
+    let r2 = c .before .before in
+    let e1 = r2 .before .before .before in
+    let r1 = e1 .before .before in
+    let t = r1 .before .before .before in
+    let s = t .before in
+    let u0 = undone-none (s .pre .0) in
+    let u1 = undone-more 0 4 u0 (r1 .undo-upper .ensures) (omega arith) (not-false _ (e1 .if2 .left)) in
+    undone-stops 4 8 u1 (r2 .undo-upper2 .ensures) (omega arith) (not-true _ (c .if3 .taken)) (omega (arith, t .if1 .taken))
+
+undo-upper-requires-3 : tie.Need-undo-upper-requires-3
+undo-upper-requires-3 c κs =
+    let e2 = c .before .before in
+    let r2 = e2 .before .before in
+    let e1 = r2 .before .before .before in
+    let r1 = e1 .before .before in
+    let t = r1 .before .before .before in
+    let s = t .before in
+    let u0 = undone-none (s .pre .0) in
+    let u1 = undone-more 0 4 u0 (r1 .undo-upper .ensures) (omega arith) (not-false _ (e1 .if2 .left)) in
+    let u2 = undone-more 4 8 u1 (r2 .undo-upper2 .ensures) (omega arith) (not-false _ (e2 .if3 .left)) in
+    (u2 .given, s .pre .1, omega arith, omega (arith, t .if1 .taken), sym (t .if1 .taken))
+
+returns-3 : tie.Need-returns-3
+returns-3 c =
+    let r3 = c .before .before in
+    let e2 = r3 .before .before .before in
+    let r2 = e2 .before .before in
+    let e1 = r2 .before .before .before in
+    let r1 = e1 .before .before in
+    let t = r1 .before .before .before in
+    let s = t .before in
+    let u0 = undone-none (s .pre .0) in
+    let u1 = undone-more 0 4 u0 (r1 .undo-upper .ensures) (omega arith) (not-false _ (e1 .if2 .left)) in
+    let u2 = undone-more 4 8 u1 (r2 .undo-upper2 .ensures) (omega arith) (not-false _ (e2 .if3 .left)) in
+    undone-stops 8 12 u2 (r3 .undo-upper3 .ensures) (omega arith) (not-true _ (c .if4 .taken)) (omega (arith, t .if1 .taken))
+
+undo-upper-requires-4 : tie.Need-undo-upper-requires-4
+undo-upper-requires-4 c κs =
+    let e3 = c .before .before in
+    let r3 = e3 .before .before in
+    let e2 = r3 .before .before .before in
+    let r2 = e2 .before .before in
+    let e1 = r2 .before .before .before in
+    let r1 = e1 .before .before in
+    let t = r1 .before .before .before in
+    let s = t .before in
+    let u0 = undone-none (s .pre .0) in
+    let u1 = undone-more 0 4 u0 (r1 .undo-upper .ensures) (omega arith) (not-false _ (e1 .if2 .left)) in
+    let u2 = undone-more 4 8 u1 (r2 .undo-upper2 .ensures) (omega arith) (not-false _ (e2 .if3 .left)) in
+    let u3 = undone-more 8 12 u2 (r3 .undo-upper3 .ensures) (omega arith) (not-false _ (e3 .if4 .left)) in
+    (u3 .given, s .pre .1, omega arith, omega (arith, t .if1 .taken), sym (t .if1 .taken))
+
+returns-4 : tie.Need-returns-4
+returns-4 c =
+    let e3 = c .before .before .before in
+    let r3 = e3 .before .before in
+    let e2 = r3 .before .before .before in
+    let r2 = e2 .before .before in
+    let e1 = r2 .before .before .before in
+    let r1 = e1 .before .before in
+    let t = r1 .before .before .before in
+    let s = t .before in
+    let u0 = undone-none (s .pre .0) in
+    let u1 = undone-more 0 4 u0 (r1 .undo-upper .ensures) (omega arith) (not-false _ (e1 .if2 .left)) in
+    let u2 = undone-more 4 8 u1 (r2 .undo-upper2 .ensures) (omega arith) (not-false _ (e2 .if3 .left)) in
+    let u3 = undone-more 8 12 u2 (r3 .undo-upper3 .ensures) (omega arith) (not-false _ (e3 .if4 .left)) in
+    undone-all 12 16 u3 (c .undo-upper4 .ensures) (omega arith) (t .if1 .taken)
+
+undo-upper-requires-5 : tie.Need-undo-upper-requires-5
+undo-upper-requires-5 c κs =
+    let s = c .before .before .before in
+    let l = s .pre .0 .low in
+    (s .pre .0, s .pre .1, omega arith, omega arith, refl)
+
+returns-5 : tie.Need-returns-5
+returns-5 c =
+    let s = c .before .before .before .before in
+    undone-all 0 (s .args .fb .order) (undone-none (s .pre .0)) (c .undo-upper5 .ensures) (omega arith) refl
+
+pub undo-upper-elements-spec : {M : Type 1} → statement M
+undo-upper-elements-spec =
+    tie.close
+    (tie.spec undo-upper-requires returns undo-upper-requires-2 returns-2
+    undo-upper-requires-3 returns-3 undo-upper-requires-4 returns-4 undo-upper-requires-5 returns-5)

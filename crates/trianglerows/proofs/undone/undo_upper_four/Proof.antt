@@ -1,0 +1,33 @@
+-- Before the first turn the sums have nothing of the row (`undo-start`); one run of four turns is all of it.
+use mathlib.Core.Path.{sym, _∙_}
+use native.Mathlib.Omega.{arith}
+use Rattle.rows.specs.Triangles.{asks-sums}
+use Rattle.rows.specs.TrianglesUndone.{undo-start, undone-none, undone-all}
+use Rattle.trianglerows.proofs.undone.undo_upper_four.Statement.{statement}
+use Rattle.trianglerows.proofs.undone.undo_upper_four.Tie as tie
+
+upper-rest-sums-requires : tie.Need-upper-rest-sums-requires
+upper-rest-sums-requires c κs =
+    let s = c .before .before in
+    (asks-sums (s .pre .0) (sym (s .pre .2)), s .pre .0 .alike ∙ s .pre .1)
+
+undo-upper-requires : tie.Need-undo-upper-requires
+undo-upper-requires c κs =
+    let a = c .before .before in
+    let s = a .before .before .before in (
+      undo-start (s .pre .0) (sym (s .pre .2)) (a .upper-rest-sums .ensures),
+      s .pre .1,
+      omega arith,
+      omega (arith, s .pre .2),
+      sym (s .pre .2),
+    )
+
+returns : tie.Need-returns
+returns c =
+    let a = c .before .before .before in
+    let s = a .before .before .before in
+    let none = undone-none (undo-start (s .pre .0) (sym (s .pre .2)) (a .upper-rest-sums .ensures)) in
+    undone-all 0 4 none (c .undo-upper .ensures) (omega arith) (s .pre .2)
+
+pub undo-upper-four-spec : {M : Type 1} → statement M
+undo-upper-four-spec = tie.close (tie.spec upper-rest-sums-requires undo-upper-requires returns)

@@ -1,0 +1,39 @@
+-- Before the first turn the sums have nothing of the row, only the rows below it (`undo-start`).
+use borrow.Author.Needs.{needs}
+use mathlib.Core.Path.{refl, _∙_}
+use Rattle.rows.specs.Triangles.{asks-sums}
+use Rattle.rows.specs.TrianglesUndone.{undo-start}
+use Rattle.trianglerows.proofs.undone.undo_upper_row.Statement.{statement}
+use Rattle.trianglerows.proofs.undone.undo_upper_row.Tie as tie
+
+undo-upper-four-requires : tie.Need-undo-upper-four-requires
+undo-upper-four-requires c κs = search needs
+
+returns : tie.Need-returns
+returns c = search needs
+
+undo-upper-eight-requires : tie.Need-undo-upper-eight-requires
+undo-upper-eight-requires c κs = search needs
+
+returns-2 : tie.Need-returns-2
+returns-2 c = search needs
+
+upper-rest-sums-requires : tie.Need-upper-rest-sums-requires
+upper-rest-sums-requires c κs =
+    let s = c .before .before .before .before in
+    (asks-sums (s .pre .0) refl, s .pre .0 .alike ∙ s .pre .1)
+
+undo-upper-elements-requires : tie.Need-undo-upper-elements-requires
+undo-upper-elements-requires c κs =
+    let a = c .before .before in
+    let s = a .before .before .before .before .before in
+    (undo-start (s .pre .0) refl (a .upper-rest-sums .ensures), s .pre .1)
+
+returns-3 : tie.Need-returns-3
+returns-3 c = search needs
+
+pub undo-upper-row-spec : {M : Type 1} → statement M
+undo-upper-row-spec =
+    tie.close
+    (tie.spec undo-upper-four-requires returns undo-upper-eight-requires returns-2 upper-rest-sums-requires
+    undo-upper-elements-requires returns-3)
