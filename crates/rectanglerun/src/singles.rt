@@ -58,7 +58,7 @@ fn apply_rows_beside(
     Outcome { ok: true, stage: 0 }
 }
 
-// The same; where rows have 8 or 16 numbers the compiler is told so, and writes their sums out.
+// The same; where rows have 4, 8 or 16 numbers the compiler is told so, and writes their sums out.
 fn apply_all_beside(
     rule: Rule,
     col: &[i32],
@@ -75,11 +75,14 @@ fn apply_all_beside(
         (r .ok) (now (x .exit)) ⌝ }
 {
     let n = fb.order;
-    if n == 16 {
-        return apply_rows_beside(rule, col, fa, row, fb, 16, g, w, x);
+    if n == 4 {
+        return apply_rows_beside(rule, col, fa, row, fb, 4, g, w, x);
     }
     if n == 8 {
         return apply_rows_beside(rule, col, fa, row, fb, 8, g, w, x);
+    }
+    if n == 16 {
+        return apply_rows_beside(rule, col, fa, row, fb, 16, g, w, x);
     }
     apply_rows_beside(rule, col, fa, row, fb, n, g, w, x)
 }
@@ -135,7 +138,7 @@ fn undo_rows_beside(
     Outcome { ok: true, stage: 0 }
 }
 
-// The same; where rows have 8 or 16 numbers the compiler is told so, and writes their sums out.
+// The same; where rows have 4, 8 or 16 numbers the compiler is told so, and writes their sums out.
 fn undo_all_beside(
     rule: Rule,
     col: &[i32],
@@ -152,11 +155,14 @@ fn undo_all_beside(
         (r .ok) (now (x .exit)) ⌝ }
 {
     let n = fb.order;
-    if n == 16 {
-        return undo_rows_beside(rule, col, fa, row, fb, 16, g, w, x);
+    if n == 4 {
+        return undo_rows_beside(rule, col, fa, row, fb, 4, g, w, x);
     }
     if n == 8 {
         return undo_rows_beside(rule, col, fa, row, fb, 8, g, w, x);
+    }
+    if n == 16 {
+        return undo_rows_beside(rule, col, fa, row, fb, 16, g, w, x);
     }
     undo_rows_beside(rule, col, fa, row, fb, n, g, w, x)
 }

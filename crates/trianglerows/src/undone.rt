@@ -13,7 +13,7 @@ ghost use Rattle.joint.specs.Sums.{Wide, mostColumn};
 ghost use Rattle.joint.specs.Elements.{undoneOf};
 ghost use Rattle.rows.specs.RowsInPlace.{RowAsks, RowDone};
 ghost use Rattle.rows.specs.Triangles.{TotalGiven, totalOf};
-ghost use Rattle.rows.specs.TrianglesUndone.{mostOwn, recentOf, UndoGiven, undoneTurn, RunUndone};
+ghost use Rattle.trianglerows.specs.TrianglesUndone.{mostOwn, recentOf, UndoGiven, undoneTurn, RunUndone};
 use crate::sums::lower_rest_sums;
 use crate::sums::upper_rest_sums;
 use factor::Layout;

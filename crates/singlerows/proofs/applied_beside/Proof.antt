@@ -12,8 +12,8 @@ use Rattle.whole.specs.Machine.{fits, reads, back, sign-within, within-sign, wi
 use Rattle.rules.specs.Numbers.{unit, bound, at}
 use Rattle.rules.specs.Stages.{R}
 use Rattle.singlerows.specs.SingleRows.{narrowSum, appliedBeside, sign-asks, both-sign, rounded-sum-small}
-use Rattle.singlerows.proofs.single.applied_beside.Statement.{statement}
-use Rattle.singlerows.proofs.single.applied_beside.Tie as tie
+use Rattle.singlerows.proofs.applied_beside.Statement.{statement}
+use Rattle.singlerows.proofs.applied_beside.Tie as tie
 
 sign-in-requires : tie.Need-sign-in-requires
 sign-in-requires c κs = rw (toZ-ofZ (c .fits .d)) (sign-asks (c .pre .0) (c .args .q) (c .pre .2))

@@ -14,8 +14,8 @@ use Rattle.joint.specs.Elements.{signAt, appliedOf}
 use Rattle.singlerows.specs.SingleRows.{Turned}
 use Rattle.singlerows.specs.SingleRowsInPlace.{row-through, row-beyond, turned-small, applied-row}
 use Rattle.singlerows.specs.LaidRows.{laid-room, laid-column, laid-given, laid-narrow, laid-turned, applied-laid}
-use Rattle.singlerows.proofs.single.apply_beside.Statement.{statement}
-use Rattle.singlerows.proofs.single.apply_beside.Tie as tie
+use Rattle.singlerows.proofs.apply_beside.Statement.{statement}
+use Rattle.singlerows.proofs.apply_beside.Tie as tie
 
 sign-at-requires : tie.Need-sign-at-requires
 sign-at-requires c κs = (c .pre .0 .column, c .pre .0 .below)

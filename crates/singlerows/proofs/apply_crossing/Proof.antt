@@ -9,8 +9,8 @@ use Rattle.whole.specs.Machine.{back}
 use Rattle.joint.specs.Elements.{signAt, sums-small}
 use Rattle.rows.specs.RowsInPlace.{in-block}
 use Rattle.rows.specs.Triangles.{applied-row}
-use Rattle.singlerows.proofs.single.apply_crossing.Statement.{statement}
-use Rattle.singlerows.proofs.single.apply_crossing.Tie as tie
+use Rattle.singlerows.proofs.apply_crossing.Statement.{statement}
+use Rattle.singlerows.proofs.apply_crossing.Tie as tie
 
 sums-at-requires : tie.Need-sums-at-requires
 sums-at-requires c κs = search needs

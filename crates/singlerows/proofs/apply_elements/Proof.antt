@@ -16,8 +16,8 @@ use Rattle.factor.specs.InPlace.{inPlace, length-in-place}
 use Rattle.joint.specs.Elements.{signAt, rest-element-small}
 use Rattle.rows.specs.Triangles.{totalOf, appliedIn, applied-from, applied-in}
 use Rattle.singlerows.specs.SingleRowsInPlace.{row-through, row-beyond, turn-beyond, turn-next}
-use Rattle.singlerows.proofs.single.apply_elements.Statement.{statement}
-use Rattle.singlerows.proofs.single.apply_elements.Tie as tie
+use Rattle.singlerows.proofs.apply_elements.Statement.{statement}
+use Rattle.singlerows.proofs.apply_elements.Tie as tie
 
 abbrev Inv-loop : tie.InvT-loop
 Inv-loop rule row f d v k x₀ n total j₀ x j =

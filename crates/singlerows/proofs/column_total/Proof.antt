@@ -6,8 +6,8 @@ use mir.Val.{toZ, ofZ}
 use Rattle.whole.specs.Machine.{fits, reads, back, within-le}
 use Rattle.joint.specs.Elements.{signAt, diagonalOf, diagonal-small, band-at}
 use borrow.Author.Needs.{needs}
-use Rattle.singlerows.proofs.single.column_total.Statement.{statement}
-use Rattle.singlerows.proofs.single.column_total.Tie as tie
+use Rattle.singlerows.proofs.column_total.Statement.{statement}
+use Rattle.singlerows.proofs.column_total.Tie as tie
 
 row-of-requires : tie.Need-row-of-requires
 row-of-requires c κs =

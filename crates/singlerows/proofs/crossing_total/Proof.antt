@@ -10,8 +10,8 @@ use Rattle.whole.specs.Machine.{reads, back, within-le, within-pos}
 use Rattle.joint.specs.Elements.{signAt}
 use Rattle.rows.specs.Triangles.{totalOf}
 use Rattle.singlerows.specs.SingleRows.{total-beside}
-use Rattle.singlerows.proofs.single.crossing_total.Statement.{statement}
-use Rattle.singlerows.proofs.single.crossing_total.Tie as tie
+use Rattle.singlerows.proofs.crossing_total.Statement.{statement}
+use Rattle.singlerows.proofs.crossing_total.Tie as tie
 
 returns : tie.Need-returns
 returns c =

@@ -7,8 +7,8 @@ use lib.ListN.{length}
 use mir.Syntax.{w32}
 use Rattle.whole.specs.Machine.{reads}
 use Rattle.singlerows.specs.LaidRows.{entry-left, entry-own, entry-right, entry-there, entry-small}
-use Rattle.singlerows.proofs.single.entry_in.Statement.{statement}
-use Rattle.singlerows.proofs.single.entry_in.Tie as tie
+use Rattle.singlerows.proofs.entry_in.Statement.{statement}
+use Rattle.singlerows.proofs.entry_in.Tie as tie
 
 -- left of it
 left : (c : tie.Then1) → let s = c .before in s .args .f .entries + s .args .j < length (s .args .row .now)

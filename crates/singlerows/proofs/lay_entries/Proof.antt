@@ -9,8 +9,8 @@ use mir.Syntax.{w32}
 use Rattle.whole.specs.Machine.{back}
 use Rattle.rules.specs.Stages.{fill}
 use Rattle.singlerows.specs.LaidRows.{entryIn}
-use Rattle.singlerows.proofs.single.lay_entries.Statement.{statement}
-use Rattle.singlerows.proofs.single.lay_entries.Tie as tie
+use Rattle.singlerows.proofs.lay_entries.Statement.{statement}
+use Rattle.singlerows.proofs.lay_entries.Tie as tie
 
 abbrev Inv-loop : tie.InvT-loop
 Inv-loop row f w₀ n j₀ w j = (j ≤ n) × (w ≡ fill j (entryIn row f) (replicate 16 (pos 0)))

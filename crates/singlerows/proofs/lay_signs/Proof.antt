@@ -9,8 +9,8 @@ use mir.Syntax.{w32}
 use Rattle.whole.specs.Machine.{back}
 use Rattle.rules.specs.Stages.{fill}
 use Rattle.joint.specs.Elements.{signAt}
-use Rattle.singlerows.proofs.single.lay_signs.Statement.{statement}
-use Rattle.singlerows.proofs.single.lay_signs.Tie as tie
+use Rattle.singlerows.proofs.lay_signs.Statement.{statement}
+use Rattle.singlerows.proofs.lay_signs.Tie as tie
 
 abbrev Inv-loop : tie.InvT-loop
 Inv-loop row f g₀ n j₀ g j = (j ≤ n) × (g ≡ fill j (signAt row f) (replicate 16 (pos 0)))

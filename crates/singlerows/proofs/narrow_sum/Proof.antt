@@ -10,8 +10,8 @@ use Rattle.whole.specs.Machine.{fits, reads, within-+, within-*}
 use Rattle.whole.specs.Sum.{sum}
 use Rattle.rules.specs.Numbers.{at}
 use Rattle.singlerows.specs.SingleRows.{narrow-small}
-use Rattle.singlerows.proofs.single.narrow_sum.Statement.{statement}
-use Rattle.singlerows.proofs.single.narrow_sum.Tie as tie
+use Rattle.singlerows.proofs.narrow_sum.Statement.{statement}
+use Rattle.singlerows.proofs.narrow_sum.Tie as tie
 
 abbrev Inv-loop : tie.InvT-loop
 Inv-loop w x k n sum₀ j₀ sum′ j = (j ≤ n) × (sum′ ≡ ofZ w64 (sum j (λ i. at w i *ℤ at x (k + i))))

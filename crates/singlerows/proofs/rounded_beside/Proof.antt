@@ -8,8 +8,8 @@ use mir.Val.{SFits, toZ, ofZ}
 use Rattle.whole.specs.Laws.{Sign}
 use Rattle.whole.specs.Machine.{fits, back, within-+, within-pos}
 use Rattle.singlerows.specs.SingleRows.{narrowSum, turned-sum-small, rounded-sum-small}
-use Rattle.singlerows.proofs.single.rounded_beside.Statement.{statement}
-use Rattle.singlerows.proofs.single.rounded_beside.Tie as tie
+use Rattle.singlerows.proofs.rounded_beside.Statement.{statement}
+use Rattle.singlerows.proofs.rounded_beside.Tie as tie
 
 narrow-sum-requires : tie.Need-narrow-sum-requires
 narrow-sum-requires c κs = search needs

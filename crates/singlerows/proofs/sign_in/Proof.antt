@@ -5,8 +5,8 @@ use mir.Facts.{toZ-ofZ}
 use mir.Syntax.{w32}
 use Rattle.whole.specs.Laws.{signs-times}
 use Rattle.whole.specs.Machine.{fits, reads, back, sign-within}
-use Rattle.singlerows.proofs.single.sign_in.Statement.{statement}
-use Rattle.singlerows.proofs.single.sign_in.Tie as tie
+use Rattle.singlerows.proofs.sign_in.Statement.{statement}
+use Rattle.singlerows.proofs.sign_in.Tie as tie
 
 mul-both-signs : tie.Need-mul-both-signs
 mul-both-signs c = search needs

@@ -11,8 +11,8 @@ use Rattle.whole.specs.Machine.{fits, reads, back, within-sign}
 use Rattle.rules.specs.Numbers.{at}
 use Rattle.singlerows.specs.SingleRows.{Turned, sign-asks, both-sign}
 use Rattle.singlerows.specs.SingleRowsInPlace.{turned-none, turned-ahead, turned-next}
-use Rattle.singlerows.proofs.single.turn_row.Statement.{statement}
-use Rattle.singlerows.proofs.single.turn_row.Tie as tie
+use Rattle.singlerows.proofs.turn_row.Statement.{statement}
+use Rattle.singlerows.proofs.turn_row.Tie as tie
 
 abbrev Inv-loop : tie.InvT-loop
 Inv-loop g n d k x₀ j₀ x j = (j ≤ n) × Turned (at g) (toZ w32 d) k j x₀ x

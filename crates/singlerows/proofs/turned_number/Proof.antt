@@ -3,8 +3,8 @@ use mathlib.Core.Path.{_≡_, sym}
 use lib.IntN.{pos, _-ℤ_, _*ℤ_}
 use mir.Facts.{toZ-ofZ}
 use Rattle.factor.specs.Rounding.{sign-below, sign-above}
-use Rattle.singlerows.proofs.single.turned_number.Statement.{statement}
-use Rattle.singlerows.proofs.single.turned_number.Tie as tie
+use Rattle.singlerows.proofs.turned_number.Statement.{statement}
+use Rattle.singlerows.proofs.turned_number.Tie as tie
 
 -- the product is the number, its sign turned
 flips : (c : tie.Then1) → let a = c .before .args in a .s *ℤ a .x ≡ pos 0 -ℤ a .x

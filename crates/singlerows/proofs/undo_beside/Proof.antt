@@ -15,8 +15,8 @@ use Rattle.joint.specs.Elements.{signAt}
 use Rattle.singlerows.specs.SingleRows.{besideSum, undoneBeside, Turned}
 use Rattle.singlerows.specs.SingleRowsInPlace.{row-through, row-beyond, turned-small, undone-row, undone-stops}
 use Rattle.singlerows.specs.LaidRows.{laid-room, laid-column, laid-given, laid-narrow, laid-turned, undone-laid}
-use Rattle.singlerows.proofs.single.undo_beside.Statement.{statement}
-use Rattle.singlerows.proofs.single.undo_beside.Tie as tie
+use Rattle.singlerows.proofs.undo_beside.Statement.{statement}
+use Rattle.singlerows.proofs.undo_beside.Tie as tie
 
 sign-at-requires : tie.Need-sign-at-requires
 sign-at-requires c κs = (c .pre .0 .column, c .pre .0 .below)

@@ -21,8 +21,8 @@ use Rattle.joint.specs.Elements.{signAt, diagonalOf, undoneOf, diagonal-small}
 use Rattle.rows.specs.RecoveredSums.{RecoveredSums, recovered-sums-start, recovered-sums-next, recovered-sums-small}
 use Rattle.rows.specs.RecoveredSums.{recovered-sums-undo}
 use Rattle.rows.specs.RowsInPlace.{inRow, undone-here, in-block}
-use Rattle.singlerows.proofs.single.undo_crossing.Statement.{statement}
-use Rattle.singlerows.proofs.single.undo_crossing.Tie as tie
+use Rattle.singlerows.proofs.undo_crossing.Statement.{statement}
+use Rattle.singlerows.proofs.undo_crossing.Tie as tie
 
 abbrev Inv-loop : tie.InvT-loop
 Inv-loop rule col fa row fb i x₀ n v₀ u₀ x v u =

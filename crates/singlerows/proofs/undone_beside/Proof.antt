@@ -9,8 +9,8 @@ use Rattle.whole.specs.Machine.{fits, back, within-sign, within--}
 use Rattle.rules.specs.Numbers.{unit, at}
 use Rattle.rules.specs.Stages.{R}
 use Rattle.singlerows.specs.SingleRows.{narrowSum, undoneBeside, sign-asks, both-sign, rounded-sum-small}
-use Rattle.singlerows.proofs.single.undone_beside.Statement.{statement}
-use Rattle.singlerows.proofs.single.undone_beside.Tie as tie
+use Rattle.singlerows.proofs.undone_beside.Statement.{statement}
+use Rattle.singlerows.proofs.undone_beside.Tie as tie
 
 sign-in-requires : tie.Need-sign-in-requires
 sign-in-requires c κs = rw (toZ-ofZ (c .fits .d)) (sign-asks (c .pre .0) (c .args .q) (c .pre .2))

@@ -16,8 +16,8 @@ use Rattle.factor.specs.UndoingOrder.{nthUndone}
 use Rattle.joint.specs.Elements.{signAt, diagonalOf, undoneOf, rest-element-small}
 use Rattle.rows.specs.RowsInPlace.{in-block}
 use Rattle.rows.specs.Triangles.{totalOf, lower-at, lower-left, lower-next}
-use Rattle.rows.specs.TrianglesUndone.{recentOf, recent-next, lower-turn}
-use Rattle.rows.specs.TrianglesUndone.{Undoing, undoing-starts, undoing-value, undoing-stops, undoing-next, undoing-ends}
+use Rattle.trianglerows.specs.TrianglesUndone.{recentOf, recent-next, lower-turn}
+use Rattle.trianglerows.specs.TrianglesUndone.{Undoing, undoing-starts, undoing-value, undoing-stops, undoing-next, undoing-ends}
 use Rattle.trianglerows.proofs.undone.undo_lower.Statement.{statement}
 use Rattle.trianglerows.proofs.undone.undo_lower.Tie as tie
 

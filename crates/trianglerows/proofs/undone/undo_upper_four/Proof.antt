@@ -2,7 +2,7 @@
 use mathlib.Core.Path.{sym, _∙_}
 use native.Mathlib.Omega.{arith}
 use Rattle.rows.specs.Triangles.{asks-sums}
-use Rattle.rows.specs.TrianglesUndone.{undo-start, undone-none, undone-all}
+use Rattle.trianglerows.specs.TrianglesUndone.{undo-start, undone-none, undone-all}
 use Rattle.trianglerows.proofs.undone.undo_upper_four.Statement.{statement}
 use Rattle.trianglerows.proofs.undone.undo_upper_four.Tie as tie
 

@@ -2,7 +2,7 @@
 use borrow.Author.Needs.{needs}
 use mathlib.Core.Path.{refl, _∙_}
 use Rattle.rows.specs.Triangles.{asks-sums}
-use Rattle.rows.specs.TrianglesUndone.{undo-start}
+use Rattle.trianglerows.specs.TrianglesUndone.{undo-start}
 use Rattle.trianglerows.proofs.undone.undo_upper_row.Statement.{statement}
 use Rattle.trianglerows.proofs.undone.undo_upper_row.Tie as tie
 

@@ -16,7 +16,7 @@ use Rattle.factor.specs.Layouts.{rowOf}
 use Rattle.joint.specs.Sums.{Wide, entriesSum, right-wide}
 use Rattle.joint.specs.Elements.{signAt, diagonalOf, band-at}
 use Rattle.rows.specs.Triangles.{upper-left, upper-right, upper-entries}
-use Rattle.rows.specs.TrianglesUndone.{mostOwn}
+use Rattle.trianglerows.specs.TrianglesUndone.{mostOwn}
 use Rattle.trianglerows.proofs.undone.upper_total.Statement.{statement}
 use Rattle.trianglerows.proofs.undone.upper_total.Tie as tie
 
