@@ -42,18 +42,19 @@ fn end_of_one(sheet: &[i32], what: Item, p: usize) -> usize
     p + 1
 }
 
-// Whether m numbers that stand from place p on, all of one meaning, have no fault. It is kept small, so that it is compiled into
-// its callers, where the meaning is known: with the meaning asked for each number, the check of order 16 took four times as long.
+// Whether m numbers that stand from place p on, all of one meaning, have no fault. Their faults are added up, which takes several
+// numbers at a time. It is kept small, so that it is compiled into its callers, where the meaning is known: with the meaning asked
+// for each number, the check of order 16 took four times as long.
 fn are_fine(sheet: &[i32], what: Item, m: usize, p: usize) -> bool
-    requires { ⌜ p + m ≤ length (now sheet) ⌝ }
+    requires { ⌜ (p + m ≤ length (now sheet)) × (m ≤ 256) ⌝ }
     ensures { λ r. ⌜ (r ≡ true
         → Passes (now (sheet .entry)) (times m (one (now (sheet .entry)) what) p) (p + m)) ⌝ }
 {
-    let mut fine = true;
+    let mut faults: u32 = 0;
     for k in 0..m {
-        fine = fine & (fault_of(sheet, what, p + k) == 0);
+        faults = faults + fault_of(sheet, what, p + k);
     }
-    fine
+    faults == 0
 }
 
 // The places of a permutation of four. Four are compared faster than marked.
@@ -93,6 +94,7 @@ fn end_of_places(sheet: &[i32], n: usize, p: usize) -> usize
 
 // n signs, then m entries.
 fn end_of_weights(sheet: &[i32], n: usize, m: usize, p: usize) -> usize
+    requires { ⌜ (n ≤ 256) × (m ≤ 256) ⌝ }
     ensures { λ r. ⌜ EndsAt (now (sheet .entry)) (weights (now (sheet .entry)) n m p) r ⌝ }
 {
     if !has_room(sheet, n, p) {
@@ -113,6 +115,7 @@ fn end_of_weights(sheet: &[i32], n: usize, m: usize, p: usize) -> usize
 
 // Kind 4: its row, n signs, then m entries.
 fn end_of_single(sheet: &[i32], n: usize, m: usize, p: usize) -> usize
+    requires { ⌜ (n ≤ 256) × (m ≤ 256) ⌝ }
     ensures { λ r. ⌜ EndsAt (now (sheet .entry))
         (one (now (sheet .entry)) (Item.Row n) p then weights (now (sheet .entry)) n m) r ⌝ }
 {

@@ -1,7 +1,9 @@
 -- Each arm is a line of `body`. Assumes nothing.
 use mathlib.Core.Path.{sym}
 use Rattle.rules.specs.Sheets.{body}
+use native.Mathlib.Omega.{arith}
 use borrow.Author.Needs.{needs}
+use Rattle.laws.specs.Tests.{triangle-most}
 use Rattle.sheetcheck.proofs.quick.end_of_body.Statement.{statement}
 use Rattle.sheetcheck.proofs.quick.end_of_body.Tie as tie
 
@@ -22,7 +24,10 @@ triangle-of-requires : tie.Need-triangle-of-requires
 triangle-of-requires c κs = search needs
 
 end-of-weights-requires : tie.Need-end-of-weights-requires
-end-of-weights-requires c κs = search needs
+end-of-weights-requires c κs =
+    let s = c .before .before .before in
+    let h = triangle-most (s .args .n) (s .pre .1) in
+    (omega arith, rw (c .triangle-of .ensures) (omega arith))
 
 returns-2 : tie.Need-returns-2
 unfolding body
@@ -35,7 +40,10 @@ triangle-of-requires-2 : tie.Need-triangle-of-requires-2
 triangle-of-requires-2 c κs = search needs
 
 end-of-weights-requires-2 : tie.Need-end-of-weights-requires-2
-end-of-weights-requires-2 c κs = search needs
+end-of-weights-requires-2 c κs =
+    let s = c .before .before .before in
+    let h = triangle-most (s .args .n) (s .pre .1) in
+    (omega arith, rw (c .triangle-of2 .ensures) (omega arith))
 
 returns-3 : tie.Need-returns-3
 unfolding body

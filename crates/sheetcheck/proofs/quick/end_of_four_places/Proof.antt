@@ -13,7 +13,7 @@ returns : tie.Need-returns
 returns c n = absurd (n refl)
 
 are-fine-requires : tie.Need-are-fine-requires
-are-fine-requires c κs = c .before .has-room .ensures (not-false _ (c .if1 .left))
+are-fine-requires c κs = (c .before .has-room .ensures (not-false _ (c .if1 .left)), omega arith)
 
 add-result : tie.Need-add-result
 add-result c =

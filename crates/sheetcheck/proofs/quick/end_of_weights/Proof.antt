@@ -15,7 +15,7 @@ returns : tie.Need-returns
 returns c n = absurd (n refl)
 
 are-fine-requires : tie.Need-are-fine-requires
-are-fine-requires c κs = c .before .has-room .ensures (not-false _ (c .if1 .left))
+are-fine-requires c κs = (c .before .has-room .ensures (not-false _ (c .if1 .left)), c .before .before .pre .0)
 
 returns-2 : tie.Need-returns-2
 returns-2 c n = absurd (n refl)
@@ -32,7 +32,8 @@ returns-3 : tie.Need-returns-3
 returns-3 c n = absurd (n refl)
 
 are-fine-requires-2 : tie.Need-are-fine-requires-2
-are-fine-requires-2 c κs = c .before .has-room2 .ensures (not-false _ (c .if3 .left))
+are-fine-requires-2 c κs =
+    (c .before .has-room2 .ensures (not-false _ (c .if3 .left)), c .before .before .before .before .before .before .pre .1)
 
 add-result : tie.Need-add-result
 add-result c =
