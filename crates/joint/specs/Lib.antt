@@ -1,3 +1,6 @@
 pub mod Sums
 pub mod Elements
 pub mod Allowances
+pub mod RowsInPlace
+pub mod RecoveredSums
+pub mod Triangles

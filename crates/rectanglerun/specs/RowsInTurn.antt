@@ -20,8 +20,8 @@ use Rattle.factor.specs.SumBounds.{Bounded}
 use Rattle.factor.specs.LayoutInSheet.{InSheet}
 use Rattle.factor.specs.Steps.{Step, step-stops, step-goes}
 use Rattle.factor.specs.InPlace.{inPlace}
-use Rattle.rows.specs.RowsInPlace.{RowAsks, RowDone, elementOf, rowOrder, row-done-same, element-same}
-use Rattle.rows.specs.RowsInPlace.{row-stopped, row-passed, no-row}
+use Rattle.joint.specs.RowsInPlace.{RowAsks, RowDone, elementOf, rowOrder, row-done-same, element-same}
+use Rattle.joint.specs.RowsInPlace.{row-stopped, row-passed, no-row}
 use Rattle.rectanglerun.specs.UndoingOrder.{nthRow, pairOrder, weightsOf}
 use Rattle.rectanglerun.specs.UndoingOrder.{nth-row-below, pair-order-permutes, pair-order-row}
 use Rattle.rectanglerun.specs.UndoingOrder.{row-unwritten}

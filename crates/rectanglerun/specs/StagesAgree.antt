@@ -35,7 +35,7 @@ use Rattle.factor.specs.InPlace.{inPlace, in-place-undoes}
 use Rattle.joint.specs.Sums.{inColumn, columnSums, jointSum}
 use Rattle.joint.specs.Elements.{signAt, diagonalOf, sumsAt, roundedSum, appliedAt, undoneAt, appliedOf, undoneOf}
 use Rattle.joint.specs.Allowances.{magnitudeSums, magnitudeSum, wholeRow, allowedAt, allowedOf}
-use Rattle.rows.specs.RowsInPlace.{elementOf, rowOrder, in-place-fill}
+use Rattle.joint.specs.RowsInPlace.{elementOf, rowOrder, in-place-fill}
 use Rattle.rectanglerun.specs.Multiples.{joint-whole}
 use Rattle.pairmoves.specs.Moves.{sourceOf}
 use Rattle.rectanglerun.specs.Weights.{diagonal-there, across-row, magnitude-there, magnitudes-row-is}

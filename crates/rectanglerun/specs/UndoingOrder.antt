@@ -24,7 +24,7 @@ use Rattle.factor.specs.Layouts.{rowOf}
 use Rattle.factor.specs.UndoingOrder.{nthUndone, undoing-permutes, undoing-reversed, Unseen, row-blind}
 use Rattle.factor.specs.InPlace.{inPlace, in-place-other}
 use Rattle.joint.specs.Sums.{SameRows}
-use Rattle.rows.specs.RowsInPlace.{rowOrder, elementOf}
+use Rattle.joint.specs.RowsInPlace.{rowOrder, elementOf}
 use Rattle.singlerows.specs.SingleRowsInPlace.{last-undone}
 
 abbrev pub nthUndonePair : Layout → Layout → ℕ → ℕ

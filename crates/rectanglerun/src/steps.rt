@@ -16,7 +16,7 @@ use factor::run::Outcome;
 use factor::run::Run;
 use factor::run::Task;
 use factor::run::is_inverse;
-use rows::allow_row;
+use joint::rows::allow_row;
 use rules::Kind;
 use rules::Rule;
 

@@ -25,7 +25,7 @@ use Rattle.factor.specs.LayoutInSheet.{InSheet}
 use Rattle.factor.specs.SumBounds.{Bounded, RowIn}
 use Rattle.joint.specs.Sums.{entriesSum}
 use Rattle.joint.specs.Elements.{signAt, appliedOf}
-use Rattle.rows.specs.RowsInPlace.{RowAsks, in-block}
+use Rattle.joint.specs.RowsInPlace.{RowAsks, in-block}
 use Rattle.singlerows.specs.SingleRows.{besideSum, narrowSum, appliedBeside, undoneBeside, Turned, Narrow, SignsGiven}
 use Rattle.singlerows.specs.SingleRows.{applied-beside}
 

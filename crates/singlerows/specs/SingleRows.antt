@@ -28,8 +28,8 @@ use Rattle.factor.specs.Rounding.{rounded-within}
 use Rattle.factor.specs.SumBounds.{Bounded, RowIn}
 use Rattle.joint.specs.Sums.{entriesSum, columnSums, jointSum}
 use Rattle.joint.specs.Elements.{signAt, diagonalOf, sumsAt, roundedSum, appliedAt, undoneAt, appliedOf, undoneOf}
-use Rattle.rows.specs.Triangles.{totalOf}
-use Rattle.rows.specs.RowsInPlace.{applied-here, undone-here}
+use Rattle.joint.specs.Triangles.{totalOf}
+use Rattle.joint.specs.RowsInPlace.{applied-here, undone-here}
 
 -- ---- definitions
 -- the entries of row j of a factor, each times its number of the block's row that starts at place k

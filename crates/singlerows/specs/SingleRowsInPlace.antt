@@ -32,7 +32,7 @@ use Rattle.factor.specs.UndoingOrder.{nthUndone, undoing-permutes}
 use Rattle.factor.specs.InPlace.{inPlace, length-in-place, in-place-other, apart}
 use Rattle.joint.specs.Sums.{entriesSum}
 use Rattle.joint.specs.Elements.{signAt, appliedOf, undoneOf}
-use Rattle.rows.specs.RowsInPlace.{Stopped, RowDone, inRow, plain}
+use Rattle.joint.specs.RowsInPlace.{Stopped, RowDone, inRow, plain}
 use Rattle.singlerows.specs.SingleRows.{besideSum, undoneBeside, Turned}
 use Rattle.singlerows.specs.SingleRows.{undone-beside, applied-corner, undone-corner}
 

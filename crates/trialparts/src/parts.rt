@@ -3,6 +3,8 @@ ghost use mathlib.Core.Path.{_≡_};
 ghost use Prim.Native.Nat.{_≤_};
 ghost use lib.ListN.{length};
 use rules::Answer;
+use sheetread::factors::size;
+use sheetread::factors::smaller;
 
 // Room for the longest sheet's bytes, for more bytes than the program reads, and for any text that it prints.
 pub const ROOM: usize = 20000;
@@ -31,7 +33,7 @@ pub fn natural(z: i32) -> usize {
     if z < 0 {
         return 0;
     }
-    z as usize
+    size(z)
 }
 
 // A word that holds a byte.
@@ -61,10 +63,7 @@ fn word_at(room: &[u8; ROOM], k: usize) -> i32 {
 fn fitting(w: &[i32]) -> usize
     ensures { λ r. ⌜ r ≤ 20000 ⌝ }
 {
-    if w.len() > ROOM {
-        return ROOM;
-    }
-    w.len()
+    smaller(w.len(), ROOM)
 }
 
 // Words at the front of a room.

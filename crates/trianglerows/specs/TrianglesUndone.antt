@@ -25,11 +25,11 @@ use Rattle.factor.specs.UndoingOrder.{nthUndone}
 use Rattle.factor.specs.InPlace.{inPlace, length-in-place}
 use Rattle.joint.specs.Sums.{Wide, mostColumn, restSums, rest-sums-small}
 use Rattle.joint.specs.Elements.{signAt, diagonalOf, restSumsAt, undoneFrom, roundedRest, undoneRest, undoneOf}
-use Rattle.rows.specs.RowsInPlace.{RowAsks, RowDone, inRow, onward, run-both, run-short, run-next, run-stops}
-use Rattle.rows.specs.RowsInPlace.{undone-here, in-block}
-use Rattle.rows.specs.Triangles.{totalOf}
-use Rattle.rows.specs.RecoveredSums.{RecoveredSums, recovered-sums-start, recovered-sums-next, recovered-sums-small}
-use Rattle.rows.specs.RecoveredSums.{recovered-sums-undo}
+use Rattle.joint.specs.RowsInPlace.{RowAsks, RowDone, inRow, onward, run-both, run-short, run-next, run-stops}
+use Rattle.joint.specs.RowsInPlace.{undone-here, in-block}
+use Rattle.joint.specs.Triangles.{totalOf}
+use Rattle.joint.specs.RecoveredSums.{RecoveredSums, recovered-sums-start, recovered-sums-next, recovered-sums-small}
+use Rattle.joint.specs.RecoveredSums.{recovered-sums-undo}
 
 -- ---- definitions
 -- the largest own term

@@ -7,8 +7,8 @@ use mir.Syntax.{w32}
 use mir.Val.{toZ, ofZ}
 use Rattle.whole.specs.Machine.{back}
 use Rattle.joint.specs.Elements.{signAt, sums-small}
-use Rattle.rows.specs.RowsInPlace.{in-block}
-use Rattle.rows.specs.Triangles.{applied-row}
+use Rattle.joint.specs.RowsInPlace.{in-block}
+use Rattle.joint.specs.Triangles.{applied-row}
 use Rattle.singlerows.proofs.apply_crossing.Statement.{statement}
 use Rattle.singlerows.proofs.apply_crossing.Tie as tie
 

@@ -14,7 +14,7 @@ use Rattle.rules.specs.Numbers.{bound, at}
 use Rattle.factor.specs.SumBounds.{Bounded, bounded-set, test-no, test-yes}
 use Rattle.factor.specs.InPlace.{inPlace, length-in-place}
 use Rattle.joint.specs.Elements.{signAt, rest-element-small}
-use Rattle.rows.specs.Triangles.{totalOf, appliedIn, applied-from, applied-in}
+use Rattle.joint.specs.Triangles.{totalOf, appliedIn, applied-from, applied-in}
 use Rattle.singlerows.specs.SingleRowsInPlace.{row-through, row-beyond, turn-beyond, turn-next}
 use Rattle.singlerows.proofs.apply_elements.Statement.{statement}
 use Rattle.singlerows.proofs.apply_elements.Tie as tie

@@ -8,7 +8,7 @@ use mir.Syntax.{w32, w64}
 use mir.Val.{toZ, ofZ}
 use Rattle.whole.specs.Machine.{reads, back, within-le, within-pos}
 use Rattle.joint.specs.Elements.{signAt}
-use Rattle.rows.specs.Triangles.{totalOf}
+use Rattle.joint.specs.Triangles.{totalOf}
 use Rattle.singlerows.specs.SingleRows.{total-beside}
 use Rattle.singlerows.proofs.crossing_total.Statement.{statement}
 use Rattle.singlerows.proofs.crossing_total.Tie as tie

@@ -18,9 +18,9 @@ use Rattle.factor.specs.UndoingOrder.{nthUndone, undoing-permutes}
 use Rattle.factor.specs.InPlace.{inPlace, length-in-place}
 use Rattle.joint.specs.Sums.{restSums, mostColumn, rest-sums-small}
 use Rattle.joint.specs.Elements.{signAt, diagonalOf, undoneOf, diagonal-small}
-use Rattle.rows.specs.RecoveredSums.{RecoveredSums, recovered-sums-start, recovered-sums-next, recovered-sums-small}
-use Rattle.rows.specs.RecoveredSums.{recovered-sums-undo}
-use Rattle.rows.specs.RowsInPlace.{inRow, undone-here, in-block}
+use Rattle.joint.specs.RecoveredSums.{RecoveredSums, recovered-sums-start, recovered-sums-next, recovered-sums-small}
+use Rattle.joint.specs.RecoveredSums.{recovered-sums-undo}
+use Rattle.joint.specs.RowsInPlace.{inRow, undone-here, in-block}
 use Rattle.singlerows.proofs.undo_crossing.Statement.{statement}
 use Rattle.singlerows.proofs.undo_crossing.Tie as tie
 

@@ -5,7 +5,7 @@ use Prim.Native.Nat.{_<_}
 use native.Mathlib.Omega.{arith}
 use Rattle.factor.specs.declared.run.Task.the-variants.{Forward}
 use Rattle.factor.specs.Tasks.{limitOf}
-use Rattle.rows.specs.RowsInPlace.{elementOf, rowOrder}
+use Rattle.joint.specs.RowsInPlace.{elementOf, rowOrder}
 use Rattle.singlerows.specs.SingleRows.{one-row}
 use Rattle.rectanglerun.specs.RowsInTurn.{Rows, no-rows, still, row-more, row-stops, turns-last}
 use Rattle.rectanglerun.specs.UndoingOrder.{nthRow, first-applied}

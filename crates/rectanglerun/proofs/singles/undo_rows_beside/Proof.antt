@@ -7,7 +7,7 @@ use Prim.Native.Nat.{_-_, _≤_, _<_}
 use native.Mathlib.Omega.{arith}
 use Rattle.factor.specs.declared.run.Task.the-variants.{Inverse}
 use Rattle.factor.specs.Tasks.{limitOf}
-use Rattle.rows.specs.RowsInPlace.{elementOf, rowOrder}
+use Rattle.joint.specs.RowsInPlace.{elementOf, rowOrder}
 use Rattle.singlerows.specs.SingleRowsInPlace.{early-undone}
 use Rattle.rectanglerun.specs.RowsInTurn.{Weighable, TurnsDone, turn-below, still, asks, no-turns, turns-more, turns-stop}
 use Rattle.rectanglerun.specs.UndoingOrder.{nthRow, single-undone}

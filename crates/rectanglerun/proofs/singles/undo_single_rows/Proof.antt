@@ -5,7 +5,7 @@ use Prim.Native.Nat.{_-_}
 use native.Mathlib.Omega.{arith}
 use Rattle.factor.specs.declared.run.Task.the-variants.{Inverse}
 use Rattle.factor.specs.Tasks.{limitOf}
-use Rattle.rows.specs.RowsInPlace.{elementOf, rowOrder}
+use Rattle.joint.specs.RowsInPlace.{elementOf, rowOrder}
 use Rattle.rectanglerun.specs.RowsInTurn.{Rows, no-rows, row-last}
 use Rattle.rectanglerun.specs.UndoingOrder.{last-row-undone}
 use Rattle.rectanglerun.proofs.singles.undo_single_rows.Statement.{statement}

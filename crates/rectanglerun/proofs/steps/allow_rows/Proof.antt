@@ -5,7 +5,7 @@ use native.Mathlib.Omega.{arith}
 use mathlib.Core.Path.{_≡_}
 use Rattle.factor.specs.declared.run.Task.the-variants.{Allowance}
 use Rattle.factor.specs.Tasks.{limitOf}
-use Rattle.rows.specs.RowsInPlace.{elementOf, rowOrder}
+use Rattle.joint.specs.RowsInPlace.{elementOf, rowOrder}
 use Rattle.rectanglerun.specs.RowsInTurn.{Rows, no-rows, turn-below, row-more, row-stops, rows-all}
 use Rattle.rectanglerun.proofs.steps.allow_rows.Statement.{statement}
 use Rattle.rectanglerun.proofs.steps.allow_rows.Tie as tie

@@ -5,7 +5,7 @@ use native.Mathlib.Omega.{arith}
 use mathlib.Core.Path.{_≡_, refl, _∙_}
 use Rattle.factor.specs.declared.run.Task.the-variants.{Inverse}
 use Rattle.factor.specs.Tasks.{limitOf}
-use Rattle.rows.specs.RowsInPlace.{elementOf, rowOrder}
+use Rattle.joint.specs.RowsInPlace.{elementOf, rowOrder}
 use Rattle.rectanglerun.specs.RowsInTurn.{Rows, no-rows, row-asks, row-more, row-stops, rows-all}
 use Rattle.rectanglerun.specs.UndoingOrder.{nthRow, lower-undone}
 use Rattle.rectanglerun.proofs.triangles.undo_lower_rows.Statement.{statement}

@@ -16,8 +16,8 @@ use Rattle.factor.specs.Layouts.{rowOf}
 use Rattle.factor.specs.SumBounds.{Bounded, bounded-set, test-no, test-yes}
 use Rattle.factor.specs.InPlace.{inPlace, length-in-place}
 use Rattle.joint.specs.Elements.{signAt, rest-element-small}
-use Rattle.rows.specs.RowsInPlace.{onward, run-next, run-stops}
-use Rattle.rows.specs.Triangles.{totalOf, appliedIn, lower-at, lower-left, lower-next, applied-from, applied-in}
+use Rattle.joint.specs.RowsInPlace.{onward, run-next, run-stops}
+use Rattle.joint.specs.Triangles.{totalOf, appliedIn, lower-at, lower-left, lower-next, applied-from, applied-in}
 use Rattle.trianglerows.proofs.applied.apply_lower.Statement.{statement}
 use Rattle.trianglerows.proofs.applied.apply_lower.Tie as tie
 

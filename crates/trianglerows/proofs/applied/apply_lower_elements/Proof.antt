@@ -4,7 +4,7 @@ use borrow.Author.Tests.{not-true, not-false}
 use mathlib.Core.Path.{refl}
 use native.Mathlib.Omega.{arith}
 use mir.Facts.{toZ-ofZ}
-use Rattle.rows.specs.RowsInPlace.{run-all, run-both, run-short}
+use Rattle.joint.specs.RowsInPlace.{run-all, run-both, run-short}
 use Rattle.trianglerows.proofs.applied.apply_lower_elements.Statement.{statement}
 use Rattle.trianglerows.proofs.applied.apply_lower_elements.Tie as tie
 

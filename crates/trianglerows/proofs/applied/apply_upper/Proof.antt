@@ -16,9 +16,9 @@ use Rattle.factor.specs.Layouts.{rowOf}
 use Rattle.factor.specs.SumBounds.{Bounded, bounded-set, test-no, test-yes}
 use Rattle.factor.specs.InPlace.{inPlace, length-in-place}
 use Rattle.joint.specs.Elements.{signAt, rest-element-small}
-use Rattle.rows.specs.RowsInPlace.{onward, run-next, run-stops}
-use Rattle.rows.specs.Triangles.{totalOf, appliedIn, upper-at, upper-left}
-use Rattle.rows.specs.Triangles.{upper-right, upper-next, applied-from, applied-in}
+use Rattle.joint.specs.RowsInPlace.{onward, run-next, run-stops}
+use Rattle.joint.specs.Triangles.{totalOf, appliedIn, upper-at, upper-left}
+use Rattle.joint.specs.Triangles.{upper-right, upper-next, applied-from, applied-in}
 use Rattle.trianglerows.proofs.applied.apply_upper.Statement.{statement}
 use Rattle.trianglerows.proofs.applied.apply_upper.Tie as tie
 

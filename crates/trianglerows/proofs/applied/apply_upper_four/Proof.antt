@@ -6,8 +6,8 @@ use mir.Syntax.{w32}
 use mir.Val.{toZ, ofZ}
 use Rattle.whole.specs.Machine.{back}
 use Rattle.joint.specs.Elements.{signAt}
-use Rattle.rows.specs.RowsInPlace.{run-all}
-use Rattle.rows.specs.Triangles.{asks-room, asks-sums, asks-run, run-row}
+use Rattle.joint.specs.RowsInPlace.{run-all}
+use Rattle.joint.specs.Triangles.{asks-room, asks-sums, asks-run, run-row}
 use Rattle.trianglerows.proofs.applied.apply_upper_four.Statement.{statement}
 use Rattle.trianglerows.proofs.applied.apply_upper_four.Tie as tie
 

@@ -6,7 +6,7 @@ use mir.Syntax.{w32}
 use mir.Val.{toZ, ofZ}
 use Rattle.whole.specs.Machine.{back}
 use Rattle.joint.specs.Elements.{signAt}
-use Rattle.rows.specs.Triangles.{asks-room, asks-sums, asks-run, run-row}
+use Rattle.joint.specs.Triangles.{asks-room, asks-sums, asks-run, run-row}
 use Rattle.trianglerows.proofs.applied.apply_upper_row.Statement.{statement}
 use Rattle.trianglerows.proofs.applied.apply_upper_row.Tie as tie
 

@@ -12,7 +12,7 @@ use Rattle.rules.specs.Numbers.{at}
 use Rattle.factor.specs.Layouts.{rowOf}
 use Rattle.joint.specs.Sums.{Wide, entriesSum, left-wide, wide-small}
 use Rattle.joint.specs.Elements.{signAt, mostJoint, band-at}
-use Rattle.rows.specs.Triangles.{lower-left, lower-entries}
+use Rattle.joint.specs.Triangles.{lower-left, lower-entries}
 use Rattle.trianglerows.proofs.applied.lower_total.Statement.{statement}
 use Rattle.trianglerows.proofs.applied.lower_total.Tie as tie
 

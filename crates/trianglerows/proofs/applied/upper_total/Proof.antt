@@ -12,7 +12,7 @@ use Rattle.rules.specs.Numbers.{at}
 use Rattle.factor.specs.Layouts.{rowOf}
 use Rattle.joint.specs.Sums.{Wide, entriesSum, right-wide, wide-small}
 use Rattle.joint.specs.Elements.{signAt, mostJoint, band-at}
-use Rattle.rows.specs.Triangles.{upper-left, upper-right, upper-entries}
+use Rattle.joint.specs.Triangles.{upper-left, upper-right, upper-entries}
 use Rattle.trianglerows.proofs.applied.upper_total.Statement.{statement}
 use Rattle.trianglerows.proofs.applied.upper_total.Tie as tie
 

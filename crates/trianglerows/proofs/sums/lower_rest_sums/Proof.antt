@@ -4,7 +4,7 @@ use mathlib.Core.Path.{_≡_, _∙_}
 use Prim.Native.Nat.{_+_}
 use native.Mathlib.Omega.{arith}
 use Rattle.factor.specs.Layouts.{rowOf}
-use Rattle.rows.specs.Triangles.{lower-at, lower-side, lower-rest}
+use Rattle.joint.specs.Triangles.{lower-at, lower-side, lower-rest}
 use Rattle.trianglerows.proofs.sums.lower_rest_sums.Statement.{statement}
 use Rattle.trianglerows.proofs.sums.lower_rest_sums.Tie as tie
 

@@ -8,8 +8,8 @@ use mir.Val.{toZ, ofZ}
 use Rattle.whole.specs.Machine.{back, fits}
 use Rattle.factor.specs.Layouts.{rowOf}
 use Rattle.joint.specs.Elements.{signAt, diagonalOf, diagonal-small}
-use Rattle.rows.specs.RowsInPlace.{row-room}
-use Rattle.rows.specs.Triangles.{lower-at, lower-side, lower-rest, with-own}
+use Rattle.joint.specs.RowsInPlace.{row-room}
+use Rattle.joint.specs.Triangles.{lower-at, lower-side, lower-rest, with-own}
 use Rattle.trianglerows.proofs.sums.lower_sums.Statement.{statement}
 use Rattle.trianglerows.proofs.sums.lower_sums.Tie as tie
 

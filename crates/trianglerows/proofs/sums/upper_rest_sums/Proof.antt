@@ -4,8 +4,8 @@ use mathlib.Core.Path.{_≡_, refl, _∙_}
 use Prim.Native.Nat.{_+_, _*_, _≤_}
 use native.Mathlib.Omega.{arith}
 use Rattle.factor.specs.Layouts.{rowOf}
-use Rattle.rows.specs.RowsInPlace.{row-room}
-use Rattle.rows.specs.Triangles.{upper-at, upper-side, upper-rest}
+use Rattle.joint.specs.RowsInPlace.{row-room}
+use Rattle.joint.specs.Triangles.{upper-at, upper-side, upper-rest}
 use Rattle.trianglerows.proofs.sums.upper_rest_sums.Statement.{statement}
 use Rattle.trianglerows.proofs.sums.upper_rest_sums.Tie as tie
 

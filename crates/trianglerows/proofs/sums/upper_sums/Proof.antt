@@ -8,8 +8,8 @@ use mir.Val.{toZ, ofZ}
 use Rattle.whole.specs.Machine.{back, fits}
 use Rattle.factor.specs.Layouts.{rowOf}
 use Rattle.joint.specs.Elements.{signAt, diagonalOf, diagonal-small}
-use Rattle.rows.specs.RowsInPlace.{row-room}
-use Rattle.rows.specs.Triangles.{upper-at, upper-side, upper-rest, with-own}
+use Rattle.joint.specs.RowsInPlace.{row-room}
+use Rattle.joint.specs.Triangles.{upper-at, upper-side, upper-rest, with-own}
 use Rattle.trianglerows.proofs.sums.upper_sums.Statement.{statement}
 use Rattle.trianglerows.proofs.sums.upper_sums.Tie as tie
 

@@ -14,7 +14,7 @@ use Rattle.rules.specs.Numbers.{unit, at}
 use Rattle.factor.specs.Layouts.{rowOf}
 use Rattle.joint.specs.Sums.{Wide, entriesSum, left-wide}
 use Rattle.joint.specs.Elements.{signAt, diagonalOf, band-at}
-use Rattle.rows.specs.Triangles.{lower-left, lower-entries}
+use Rattle.joint.specs.Triangles.{lower-left, lower-entries}
 use Rattle.trianglerows.specs.TrianglesUndone.{mostOwn}
 use Rattle.trianglerows.proofs.undone.lower_total.Statement.{statement}
 use Rattle.trianglerows.proofs.undone.lower_total.Tie as tie

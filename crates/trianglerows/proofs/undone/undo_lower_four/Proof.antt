@@ -1,7 +1,7 @@
 -- Before the first turn the sums have nothing of the row (`undo-start`); one run of four turns is all of it.
 use mathlib.Core.Path.{sym, _∙_}
 use native.Mathlib.Omega.{arith}
-use Rattle.rows.specs.Triangles.{asks-sums}
+use Rattle.joint.specs.Triangles.{asks-sums}
 use Rattle.trianglerows.specs.TrianglesUndone.{undo-start, undone-none, undone-all}
 use Rattle.trianglerows.proofs.undone.undo_lower_four.Statement.{statement}
 use Rattle.trianglerows.proofs.undone.undo_lower_four.Tie as tie

@@ -1,7 +1,7 @@
 -- Before the first turn the sums have nothing of the row, only the rows above it (`undo-start`).
 use borrow.Author.Needs.{needs}
 use mathlib.Core.Path.{refl, _∙_}
-use Rattle.rows.specs.Triangles.{asks-sums}
+use Rattle.joint.specs.Triangles.{asks-sums}
 use Rattle.trianglerows.specs.TrianglesUndone.{undo-start}
 use Rattle.trianglerows.proofs.undone.undo_lower_row.Statement.{statement}
 use Rattle.trianglerows.proofs.undone.undo_lower_row.Tie as tie

@@ -16,8 +16,8 @@ use Rattle.factor.specs.Layouts.{rowOf}
 use Rattle.factor.specs.SumBounds.{test-no, test-yes}
 use Rattle.factor.specs.UndoingOrder.{nthUndone}
 use Rattle.joint.specs.Elements.{signAt, diagonalOf, undoneOf, rest-element-small}
-use Rattle.rows.specs.RowsInPlace.{in-block}
-use Rattle.rows.specs.Triangles.{totalOf, upper-at, upper-left, upper-right}
+use Rattle.joint.specs.RowsInPlace.{in-block}
+use Rattle.joint.specs.Triangles.{totalOf, upper-at, upper-left, upper-right}
 use Rattle.trianglerows.specs.TrianglesUndone.{recentOf, recent-some, recent-next, upper-turn, above-step}
 use Rattle.trianglerows.specs.TrianglesUndone.{Undoing, undoing-starts, undoing-value, undoing-stops, undoing-next, undoing-ends}
 use Rattle.trianglerows.proofs.undone.undo_upper.Statement.{statement}

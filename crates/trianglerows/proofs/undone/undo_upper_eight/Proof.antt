@@ -2,7 +2,7 @@
 use borrow.Author.Tests.{not-true, not-false}
 use mathlib.Core.Path.{sym, _∙_}
 use native.Mathlib.Omega.{arith}
-use Rattle.rows.specs.Triangles.{asks-sums}
+use Rattle.joint.specs.Triangles.{asks-sums}
 use Rattle.trianglerows.specs.TrianglesUndone.{undo-start, undone-none, undone-more, undone-stops, undone-all}
 use Rattle.trianglerows.proofs.undone.undo_upper_eight.Statement.{statement}
 use Rattle.trianglerows.proofs.undone.undo_upper_eight.Tie as tie

@@ -15,7 +15,7 @@ use Rattle.rules.specs.Numbers.{unit, at}
 use Rattle.factor.specs.Layouts.{rowOf}
 use Rattle.joint.specs.Sums.{Wide, entriesSum, right-wide}
 use Rattle.joint.specs.Elements.{signAt, diagonalOf, band-at}
-use Rattle.rows.specs.Triangles.{upper-left, upper-right, upper-entries}
+use Rattle.joint.specs.Triangles.{upper-left, upper-right, upper-entries}
 use Rattle.trianglerows.specs.TrianglesUndone.{mostOwn}
 use Rattle.trianglerows.proofs.undone.upper_total.Statement.{statement}
 use Rattle.trianglerows.proofs.undone.upper_total.Tie as tie

@@ -21,11 +21,11 @@ use Rattle.factor.specs.Layouts.{rowBy, rowOf}
 use Rattle.factor.specs.SumBounds.{Bounded, bounded-le}
 use Rattle.factor.specs.LayoutInSheet.{InSheet, row-wide}
 use Rattle.factor.specs.InPlace.{in-place-other}
 use Rattle.joint.specs.Sums.{across, entriesSum, jointSum, mostColumn, added, rowsSum, sideWith, Side}
 use Rattle.joint.specs.Sums.{above-side, below-side, rest-left, rest-right, rest-with}
 use Rattle.joint.specs.Elements.{signAt, diagonalOf, sumsAt, restSumsAt, roundedSum, appliedFrom, appliedAt, appliedOf}
 use Rattle.joint.specs.Elements.{RowGiven, sums-small}
-use Rattle.rows.specs.RowsInPlace.{RowAsks, RowDone, plain, inRow, row-done-along, applied-here, row-room}
+use Rattle.joint.specs.RowsInPlace.{RowAsks, RowDone, plain, inRow, row-done-along, applied-here, row-room}
 
 -- ---- definitions
 -- what the sum of element j asks

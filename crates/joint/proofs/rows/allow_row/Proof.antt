@@ -16,10 +16,10 @@ use Rattle.factor.specs.SumBounds.{Bounded, bounded-set, test-no, test-yes}
 use Rattle.factor.specs.InPlace.{inPlace, length-in-place}
 use Prim.Native.Nat.{_%_}
 use Rattle.rules.specs.Laws.Rectangles.{col-of}
 use Rattle.joint.specs.Allowances.{allowedAt, allowedOf, magnitude-sums-small}
-use Rattle.rows.specs.RowsInPlace.{plain, inRow, steps-same, row-ahead, allowed-here, in-block}
-use Rattle.rows.proofs.allow_row.Statement.{statement}
-use Rattle.rows.proofs.allow_row.Tie as tie
+use Rattle.joint.specs.RowsInPlace.{plain, inRow, steps-same, row-ahead, allowed-here, in-block}
+use Rattle.joint.proofs.rows.allow_row.Statement.{statement}
+use Rattle.joint.proofs.rows.allow_row.Tie as tie
 
 abbrev Inv-loop : tie.InvT-loop
 Inv-loop rule col row fb i x₀ n whole v j₀ x j =

@@ -1,3 +1,0 @@
-pub mod RowsInPlace
-pub mod RecoveredSums
-pub mod Triangles
