@@ -43,8 +43,8 @@ fn end_of_one(sheet: &[i32], what: Item, p: usize) -> usize
 }
 
 // Whether m numbers that stand from place p on, all of one meaning, have no fault. Their faults are added up, which takes several
-// numbers at a time. It is kept small, so that it is compiled into its callers, where the meaning is known: with the meaning asked
-// for each number, the check of order 16 took four times as long.
+// numbers at a time. It is kept small, so that it is compiled into its callers, where the meaning is known: with the meaning
+// asked for each number, the check of order 16 took six times as long.
 fn are_fine(sheet: &[i32], what: Item, m: usize, p: usize) -> bool
     requires { ⌜ (p + m ≤ length (now sheet)) × (m ≤ 256) ⌝ }
     ensures { λ r. ⌜ (r ≡ true
