@@ -1,4 +1,4 @@
--- A PAIR OF PERMUTATIONS FROM ONE BLOCK TO ANOTHER, row by row: from a copy of the block, from the lent numbers, into the output.
+-- A PAIR OF PERMUTATIONS FROM ONE BLOCK TO ANOTHER, row by row: from the lent numbers, and into the output.
 use mathlib.Core.Bool.{Bool}
 use mathlib.Core.List.{List}
 use mathlib.Core.Path.{_≡_, refl, sym, ap, _∙_}

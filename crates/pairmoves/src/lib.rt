@@ -8,7 +8,6 @@ ghost use Rattle.factor.specs.Tasks.{isInverse};
 ghost use Rattle.pairmoves.specs.Moves.{sourceOf, Lines, MovedBySheet};
 ghost use Rattle.pairmoves.specs.MovedAside.{Places, placeAt, movedRow, MovedInto};
 use factor::Layout;
-use factor::block::copy_front;
 use factor::moves::either;
 use factor::moves::move_line;
 use factor::run::Task;
@@ -90,27 +89,6 @@ pub fn move_into(
     move_rows(col, p, n1, row, q, n2, back, old, x)
 }
 
-// A block of at most 64 numbers through a copy of it.
-fn move_small(col: &[i32], fa: Layout, row: &[i32], fb: Layout, task: Task, x: &mut [i32; 256])
-    requires { ⌜ Moves (now col) fa × Moves (now row) fb × (fa .order * fb .order ≤ 64) ⌝ }
-    ensures { λ _. ⌜ now (x .exit) ≡ movedBy (isInverse task) (fa .order * fb .order)
-        (sourceOf (now (col .entry)) fa (now (row .entry)) fb) (now (x .entry)) ⌝ }
-{
-    let mut old = [0i32; 64];
-    copy_front(x, &mut old, 64);
-    move_into(
-        col,
-        fa.signs,
-        fa.order,
-        row,
-        fb.signs,
-        fb.order,
-        task,
-        &old,
-        x,
-    );
-}
-
 // Lines that each start w places after the one before it, their numbers s apart: the rows of a block, or its columns.
 fn move_lines(sheet: &[i32], f: Layout, task: Task, many: usize, w: usize, s: usize, x: &mut [i32])
     requires { ⌜ Moves (now sheet) f × Lines many (f .order) w s (length (now x)) ⌝ }
@@ -121,9 +99,9 @@ fn move_lines(sheet: &[i32], f: Layout, task: Task, many: usize, w: usize, s: us
     }
 }
 
-// Any block, with no room for a copy of it: the numbers of each row by the row sheet's permutation, then those of each column by
-// the column sheet's.
-fn move_large(col: &[i32], fa: Layout, row: &[i32], fb: Layout, task: Task, x: &mut [i32; 256])
+// In place, Y(i,j) = X(p(i),q(j)), or back: the numbers of each row by the row sheet's permutation, then those of each column by
+// the column sheet's. There is no room for a copy of the block.
+pub fn move_pair(col: &[i32], fa: Layout, row: &[i32], fb: Layout, task: Task, x: &mut [i32; 256])
     requires { ⌜ Moves (now col) fa × Moves (now row) fb ⌝ }
     ensures { λ _. ⌜ now (x .exit) ≡ movedBy (isInverse task) (fa .order * fb .order)
         (sourceOf (now (col .entry)) fa (now (row .entry)) fb) (now (x .entry)) ⌝ }
@@ -132,19 +110,4 @@ fn move_large(col: &[i32], fa: Layout, row: &[i32], fb: Layout, task: Task, x: &
     let n2 = fb.order;
     move_lines(row, fb, task, n1, n2, 1, x);
     move_lines(col, fa, task, n2, 1, n2, x);
-}
-
-// Y(i,j) = X(p(i),q(j)), or back.
-pub fn move_pair(col: &[i32], fa: Layout, row: &[i32], fb: Layout, task: Task, x: &mut [i32; 256])
-    requires { ⌜ Moves (now col) fa × Moves (now row) fb ⌝ }
-    ensures { λ _. ⌜ now (x .exit) ≡ movedBy (isInverse task) (fa .order * fb .order)
-        (sourceOf (now (col .entry)) fa (now (row .entry)) fb) (now (x .entry)) ⌝ }
-{
-    let n1 = fa.order;
-    let n2 = fb.order;
-    if n1 * n2 <= 64 {
-        move_small(col, fa, row, fb, task, x);
-        return;
-    }
-    move_large(col, fa, row, fb, task, x);
 }

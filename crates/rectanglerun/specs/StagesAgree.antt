@@ -4,6 +4,7 @@ use mathlib.Core.List.{List}
 use mathlib.Core.Logic.{_≢_, _⊎_, inl, inr}
 use mathlib.Core.Path.{_≡_, refl, sym, ap, ap₂, _∙_, subst}
 use Prim.Native.Nat.{ℕ, _+_, _*_, _/_, _%_, _≤_, _<_}
+use native.Mathlib.Nat.{mul-le-mul}
 use native.Mathlib.Omega.{arith}
 use lib.IntN.{ℤ, pos, natAbs, _+ℤ_, _-ℤ_, _*ℤ_, zero-*ℤ, *ℤ-zero}
 use lib.ListN.{length, replicate}
@@ -26,9 +27,12 @@ use Rattle.factor.specs.declared.Layout.{Layout}
 use Rattle.factor.specs.declared.run.Task.{Task}
 use Rattle.factor.specs.declared.run.Task.the-variants.{Forward, Inverse, Allowance}
 use Rattle.factor.specs.declared.run.Run.{Run}
-use Rattle.factor.specs.Tasks.{isInverse, stageBy, takenBy}
+use Rattle.factor.specs.SumBounds.{Bounded}
+use Rattle.factor.specs.Tasks.{isInverse, limitOf, stageBy, takenBy}
+use Rattle.factor.specs.Steps.{Step}
 use Rattle.factor.specs.MovedInPlace.{movedBy}
-use Rattle.factor.specs.Layouts.{rowIn, layoutBy, layoutAt, rowOf}
+use Rattle.factor.specs.Layouts.{rowIn, layoutBy, layoutAt, rowOf, isMove}
+use Rattle.factor.specs.LayoutInSheet.{in-sheet, move-no, row-inside}
 use Rattle.factor.specs.UndoingOrder.{nthUndone, undoing-permutes, later-blind}
 use Rattle.factor.specs.WholeRows.{row-whole}
 use Rattle.factor.specs.InPlace.{inPlace, in-place-undoes}
@@ -39,6 +43,7 @@ use Rattle.joint.specs.RowsInPlace.{elementOf, rowOrder, in-place-fill}
 use Rattle.rectanglerun.specs.Multiples.{joint-whole}
 use Rattle.pairmoves.specs.Moves.{sourceOf}
 use Rattle.rectanglerun.specs.Weights.{diagonal-there, across-row, magnitude-there, magnitudes-row-is}
+use Rattle.rectanglerun.specs.RowsInTurn.{Weighable, Weighed}
 use Rattle.rectanglerun.specs.UndoingOrder.{nthUndonePair, nthRow, pairOrder}
 use Rattle.rectanglerun.specs.UndoingOrder.{weightsBy, pairs-permute, rows-permute, earlier}
 
@@ -262,3 +267,36 @@ pub record Paired (c r : List ℤ) (n1 n2 i j : ℕ) : Type 0 where
   pub most2 : n2 ≤ mostOrder
   pub row : FactorRead r n2 j
   pub match : kindOf (count c i) ≡ kindOf (count r j)
+
+-- ---- a pair of factors with weights, as the code learns it: by its layouts and its kind
+module _ {c r : List ℤ} {n1 n2 i j : ℕ} (p : Paired c r n1 n2 i j) {fa fb : Layout} (ea : fa ≡ layoutAt c n1 i)
+    (eb : fb ≡ layoutAt r n2 j) {kind : Kind} (k : fb .kind ≡ kind) (m : isMove kind ≡ false) (run : Run) {task : Task}
+    (t : run .task ≡ task)
+    {x : List ℤ} (small : Bounded (limitOf (run .task)) x) (long : length x ≡ 256) where
+  weighs : kindOf (count r j) ≢ Permutation
+  unfolding layoutAt layoutBy
+  weighs = move-no _ (ap isMove (sym (ap (λ (f : Layout). f .kind) eb) ∙ k) ∙ m)
+
+  pub stage-asks : Weighable task c fa r fb x
+  unfolding layoutAt layoutBy
+  stage-asks = rw (ea, eb, ← t) (record {
+    column = in-sheet (p .most1) (p .column) (λ z. weighs (sym (p .match) ∙ z));
+    row = in-sheet (p .most2) (p .row) weighs;
+    low1 = row-inside (p .some1) (p .column);
+    low2 = row-inside (p .some2) (p .row);
+    alike = p .match;
+    weighs = weighs;
+    small = small;
+    long = long;
+  })
+
+  -- all rows are the stage
+  pub stage-weighed : {ok : Bool} {y : List ℤ} → Weighed task (run .rule) c fa r fb x ok y →
+      Step (limitOf (run .task)) (n1 * n2) (takenBy run (n1 * n2) (jointStage n1 n2 (factorAt c n1 i) (factorAt r n2 j)) x) ok y
+      × (length y ≡ 256)
+  unfolding layoutAt layoutBy
+  stage-weighed {ok} {y} w =
+      let room : n1 * n2 ≤ length x = omega (arith, long, mul-le-mul (p .most1) (p .most2)) in
+      let stage = weights-are _ _ _ _ _ _ (p .column) (p .row) (p .match) (λ z. weighs (sym (p .match) ∙ z)) (p .most2)
+      (row-inside (p .some1) (p .column)) (row-inside (p .some2) (p .row)) (p .most1) x room run in
+      (rw (ea, eb, ← t, stage) at (w .0), w .1)

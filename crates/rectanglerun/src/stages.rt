@@ -8,14 +8,24 @@ ghost use Rattle.factor.specs.SumBounds.{Bounded};
 ghost use Rattle.factor.specs.Tasks.{limitOf, takenBy};
 ghost use Rattle.factor.specs.Steps.{Step};
 ghost use Rattle.rectanglerun.specs.StagesAgree.{Paired};
-use crate::steps::run_weights;
-use factor::is_move;
+use crate::allowances::allow_rows;
+use crate::singles::apply_single_rows;
+use crate::singles::undo_single_rows;
+use crate::triangles::apply_lower_rows;
+use crate::triangles::apply_upper_rows;
+use crate::triangles::undo_lower_rows;
+use crate::triangles::undo_upper_rows;
 use factor::layout_at;
 use factor::run::Outcome;
 use factor::run::Run;
+use factor::run::Task;
 use pairmoves::move_pair;
+use rules::Kind;
 
-// A pair of permutations moves the numbers, and can leave no bound; a pair of factors with weights makes new ones.
+// A pair of permutations moves the numbers, and can leave no bound. A pair of factors with weights makes new ones, row by row; it
+// stops at the first number beyond the bound, and the block is not looked at again then: later sums could leave 64 bits.
+// All kinds and tasks are told apart in this one function. So the compiler keeps it apart from the function that holds the block,
+// and its rows share one frame.
 pub fn run_stage(
     run: Run,
     col: &[i32],
@@ -32,11 +42,29 @@ pub fn run_stage(
         (now (x .entry))) (r .ok) (now (x .exit)) × (length (now (x .exit)) ≡ 256) ⌝ }
 {
     let task = run.task;
+    let rule = run.rule;
     let fa = layout_at(col, n1, i);
     let fb = layout_at(row, n2, j);
-    if is_move(fa) {
-        move_pair(col, fa, row, fb, task, x);
-        return Outcome { ok: true, stage: 0 };
+    let kind = fb.kind;
+    match kind {
+        Kind::Lower => match task {
+            Task::Forward => return apply_lower_rows(rule, col, fa, row, fb, x),
+            Task::Inverse => return undo_lower_rows(rule, col, fa, row, fb, x),
+            Task::Allowance => return allow_rows(rule, col, fa, row, fb, x),
+        },
+        Kind::Upper => match task {
+            Task::Forward => return apply_upper_rows(rule, col, fa, row, fb, x),
+            Task::Inverse => return undo_upper_rows(rule, col, fa, row, fb, x),
+            Task::Allowance => return allow_rows(rule, col, fa, row, fb, x),
+        },
+        Kind::Single => match task {
+            Task::Forward => return apply_single_rows(rule, col, fa, row, fb, x),
+            Task::Inverse => return undo_single_rows(rule, col, fa, row, fb, x),
+            Task::Allowance => return allow_rows(rule, col, fa, row, fb, x),
+        },
+        Kind::Permutation => {
+            move_pair(col, fa, row, fb, task, x);
+            return Outcome { ok: true, stage: 0 };
+        }
     }
-    run_weights(run, col, fa, row, fb, x)
 }

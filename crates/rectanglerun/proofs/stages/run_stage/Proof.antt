@@ -1,19 +1,12 @@
--- A pair of permutations and a pair of factors with weights are each the document's stage (`moves-are`, `weights-are`).
+-- A pair of permutations and a pair of factors with weights are each the document's stage (`moves-are`, `stage-weighed`).
 use borrow.Author.Needs.{needs}
-use mathlib.Core.Logic.{_≢_}
-use mathlib.Core.Path.{_≡_, sym, ap, _∙_}
-use Prim.Native.Nat.{_*_, _≤_}
-use native.Mathlib.Nat.{mul-le-mul}
-use native.Mathlib.Omega.{arith}
+use mathlib.Core.Path.{_≡_, refl, sym, ap, _∙_}
 use lib.ListN.{length}
-use Rattle.rules.specs.declared.Kind.the-variants.{Permutation}
-use Rattle.rules.specs.Numbers.{count}
-use Rattle.rules.specs.Sheets.{kindOf}
-use Rattle.factor.specs.Layouts.{layoutBy, layoutAt}
+use Rattle.factor.specs.Layouts.{layoutBy, layoutAt, isMove}
 use Rattle.factor.specs.Steps.{step-moves}
 use Rattle.factor.specs.MovedInPlace.{moved-bounded, moved-scattered, length-scattered}
-use Rattle.factor.specs.LayoutInSheet.{in-sheet, moves, kind-yes, kind-no, row-inside}
-use Rattle.rectanglerun.specs.StagesAgree.{moves-are, weights-are}
+use Rattle.factor.specs.LayoutInSheet.{moves}
+use Rattle.rectanglerun.specs.StagesAgree.{moves-are, stage-asks, stage-weighed}
 use Rattle.rectanglerun.proofs.stages.run_stage.Statement.{statement}
 use Rattle.rectanglerun.proofs.stages.run_stage.Tie as tie
 
@@ -23,79 +16,262 @@ layout-at-requires c κs = search needs
 layout-at-requires-2 : tie.Need-layout-at-requires-2
 layout-at-requires-2 c κs = search needs
 
-is-move-requires : tie.Need-is-move-requires
-is-move-requires c κs = search needs
+enum-told : tie.Need-enum-told
+enum-told c = search needs
 
-yes-kind : (c : tie.Then1) → let s = c .before .before .before .before in
-    kindOf (count (s .args .col .now) (s .args .i)) ≡ Permutation
-yes-kind c =
-    let l = c .before .before .before in
-    kind-yes (l .before .pre .0 .column) (l .layout-at .ensures) (c .before .is-move .ensures) (c .if1 .taken)
+enum-told-2 : tie.Need-enum-told-2
+enum-told-2 c = search needs
 
-no-kind : (c : tie.Else1) → let s = c .before .before .before .before in
-    kindOf (count (s .args .col .now) (s .args .i)) ≢ Permutation
-no-kind c =
-    let l = c .before .before .before in
-    kind-no (l .before .pre .0 .column) (l .layout-at .ensures) (c .before .is-move .ensures) (c .if1 .left)
-
-move-pair-requires : tie.Need-move-pair-requires
-move-pair-requires c κs =
+apply-lower-rows-requires : tie.Need-apply-lower-rows-requires
+unfolding isMove
+apply-lower-rows-requires c κs =
     let t = c .before in
-    let s = t .before .before .before .before in
-    let p = s .pre .0 in
-    let q = yes-kind t in
-    rw (t .before .before .before .layout-at .ensures, t .before .before .layout-at2 .ensures)
-    (moves (p .most1) (p .column) q, moves (p .most2) (p .row) (sym (p .match) ∙ q))
-
-returns : tie.Need-returns
-unfolding layoutAt layoutBy
-returns c =
-    let t = c .before .before in
-    let s = t .before .before .before .before in
-    let x = s .args .x .now in
-    let q = yes-kind t in
-    let e = rw (t .before .before .before .layout-at .ensures, t .before .before .layout-at2 .ensures) at
-    (c .move-pair .ensures) in (
-      step-moves e (moves-are _ _ _ _ _ _ (s .pre .0 .match) q (s .args .run) x) (moved-bounded _ _ _ (s .pre .1)),
-      ap length (e ∙ moved-scattered _ _ _ x) ∙ length-scattered _ _ _ x ∙ s .pre .2,
+    let k = t .before .before in
+    let l = k .before .before in
+    let s = l .before .before in (
+      stage-asks (s .pre .0) (l .before .layout-at .ensures) (l .layout-at2 .ensures) (k .enum-told .given .1) refl (s .args .run)
+          (t .enum-told2 .given .1) (s .pre .1) (s .pre .2),
+      k .enum-told .given .1,
     )
 
-run-weights-requires : tie.Need-run-weights-requires
-unfolding layoutAt layoutBy
-run-weights-requires c κs =
-    let e = c .before in
-    let s = e .before .before .before .before in
-    let p = s .pre .0 in
-    let q = no-kind e in
-    rw (e .before .before .before .layout-at .ensures, e .before .before .layout-at2 .ensures) (record {
-      column = in-sheet (p .most1) (p .column) q;
-      row = in-sheet (p .most2) (p .row) (λ z. q (p .match ∙ z));
-      low1 = row-inside (p .some1) (p .column);
-      low2 = row-inside (p .some2) (p .row);
-      alike = p .match;
-      weighs = λ z. q (p .match ∙ z);
-      small = s .pre .1;
-      long = s .pre .2;
-    })
+returns : tie.Need-returns
+unfolding isMove
+returns c =
+    let t = c .before .before in
+    let k = t .before .before in
+    let l = k .before .before in
+    let s = l .before .before in
+    stage-weighed (s .pre .0) (l .before .layout-at .ensures) (l .layout-at2 .ensures) (k .enum-told .given .1) refl (s .args .run)
+    (t .enum-told2 .given .1) (s .pre .1) (s .pre .2) (c .apply-lower-rows .ensures)
+
+enum-told-3 : tie.Need-enum-told-3
+enum-told-3 c = search needs
+
+undo-lower-rows-requires : tie.Need-undo-lower-rows-requires
+unfolding isMove
+undo-lower-rows-requires c κs =
+    let t = c .before in
+    let k = t .before .before in
+    let l = k .before .before in
+    let s = l .before .before in (
+      stage-asks (s .pre .0) (l .before .layout-at .ensures) (l .layout-at2 .ensures) (k .enum-told .given .1) refl (s .args .run)
+          (t .enum-told3 .given .1) (s .pre .1) (s .pre .2),
+      k .enum-told .given .1,
+    )
 
 returns-2 : tie.Need-returns-2
-unfolding layoutAt layoutBy
+unfolding isMove
 returns-2 c =
-    let e = c .before .before in
-    let s = e .before .before .before .before in
+    let t = c .before .before in
+    let k = t .before .before in
+    let l = k .before .before in
+    let s = l .before .before in
+    stage-weighed (s .pre .0) (l .before .layout-at .ensures) (l .layout-at2 .ensures) (k .enum-told .given .1) refl (s .args .run)
+    (t .enum-told3 .given .1) (s .pre .1) (s .pre .2) (c .undo-lower-rows .ensures)
+
+enum-told-4 : tie.Need-enum-told-4
+enum-told-4 c = search needs
+
+allow-rows-requires : tie.Need-allow-rows-requires
+unfolding isMove
+allow-rows-requires c κs =
+    let t = c .before in
+    let k = t .before .before in
+    let l = k .before .before in
+    let s = l .before .before in
+    stage-asks (s .pre .0) (l .before .layout-at .ensures) (l .layout-at2 .ensures) (k .enum-told .given .1) refl (s .args .run)
+    (t .enum-told4 .given .1) (s .pre .1) (s .pre .2)
+
+returns-3 : tie.Need-returns-3
+unfolding isMove
+returns-3 c =
+    let t = c .before .before in
+    let k = t .before .before in
+    let l = k .before .before in
+    let s = l .before .before in
+    stage-weighed (s .pre .0) (l .before .layout-at .ensures) (l .layout-at2 .ensures) (k .enum-told .given .1) refl (s .args .run)
+    (t .enum-told4 .given .1) (s .pre .1) (s .pre .2) (c .allow-rows .ensures)
+
+enum-told-5 : tie.Need-enum-told-5
+enum-told-5 c = search needs
+
+enum-told-6 : tie.Need-enum-told-6
+enum-told-6 c = search needs
+
+apply-upper-rows-requires : tie.Need-apply-upper-rows-requires
+unfolding isMove
+apply-upper-rows-requires c κs =
+    let t = c .before in
+    let k = t .before .before in
+    let l = k .before .before in
+    let s = l .before .before in (
+      stage-asks (s .pre .0) (l .before .layout-at .ensures) (l .layout-at2 .ensures) (k .enum-told5 .given .1) refl (s .args .run)
+          (t .enum-told6 .given .1) (s .pre .1) (s .pre .2),
+      k .enum-told5 .given .1,
+    )
+
+returns-4 : tie.Need-returns-4
+unfolding isMove
+returns-4 c =
+    let t = c .before .before in
+    let k = t .before .before in
+    let l = k .before .before in
+    let s = l .before .before in
+    stage-weighed (s .pre .0) (l .before .layout-at .ensures) (l .layout-at2 .ensures) (k .enum-told5 .given .1) refl (s .args .run)
+    (t .enum-told6 .given .1) (s .pre .1) (s .pre .2) (c .apply-upper-rows .ensures)
+
+enum-told-7 : tie.Need-enum-told-7
+enum-told-7 c = search needs
+
+undo-upper-rows-requires : tie.Need-undo-upper-rows-requires
+unfolding isMove
+undo-upper-rows-requires c κs =
+    let t = c .before in
+    let k = t .before .before in
+    let l = k .before .before in
+    let s = l .before .before in (
+      stage-asks (s .pre .0) (l .before .layout-at .ensures) (l .layout-at2 .ensures) (k .enum-told5 .given .1) refl (s .args .run)
+          (t .enum-told7 .given .1) (s .pre .1) (s .pre .2),
+      k .enum-told5 .given .1,
+    )
+
+returns-5 : tie.Need-returns-5
+unfolding isMove
+returns-5 c =
+    let t = c .before .before in
+    let k = t .before .before in
+    let l = k .before .before in
+    let s = l .before .before in
+    stage-weighed (s .pre .0) (l .before .layout-at .ensures) (l .layout-at2 .ensures) (k .enum-told5 .given .1) refl (s .args .run)
+    (t .enum-told7 .given .1) (s .pre .1) (s .pre .2) (c .undo-upper-rows .ensures)
+
+enum-told-8 : tie.Need-enum-told-8
+enum-told-8 c = search needs
+
+allow-rows-requires-2 : tie.Need-allow-rows-requires-2
+unfolding isMove
+allow-rows-requires-2 c κs =
+    let t = c .before in
+    let k = t .before .before in
+    let l = k .before .before in
+    let s = l .before .before in
+    stage-asks (s .pre .0) (l .before .layout-at .ensures) (l .layout-at2 .ensures) (k .enum-told5 .given .1) refl (s .args .run)
+    (t .enum-told8 .given .1) (s .pre .1) (s .pre .2)
+
+returns-6 : tie.Need-returns-6
+unfolding isMove
+returns-6 c =
+    let t = c .before .before in
+    let k = t .before .before in
+    let l = k .before .before in
+    let s = l .before .before in
+    stage-weighed (s .pre .0) (l .before .layout-at .ensures) (l .layout-at2 .ensures) (k .enum-told5 .given .1) refl (s .args .run)
+    (t .enum-told8 .given .1) (s .pre .1) (s .pre .2) (c .allow-rows2 .ensures)
+
+enum-told-9 : tie.Need-enum-told-9
+enum-told-9 c = search needs
+
+enum-told-10 : tie.Need-enum-told-10
+enum-told-10 c = search needs
+
+apply-single-rows-requires : tie.Need-apply-single-rows-requires
+unfolding isMove
+apply-single-rows-requires c κs =
+    let t = c .before in
+    let k = t .before .before in
+    let l = k .before .before in
+    let s = l .before .before in (
+      stage-asks (s .pre .0) (l .before .layout-at .ensures) (l .layout-at2 .ensures) (k .enum-told9 .given .1) refl (s .args .run)
+          (t .enum-told10 .given .1) (s .pre .1) (s .pre .2),
+      k .enum-told9 .given .1,
+    )
+
+returns-7 : tie.Need-returns-7
+unfolding isMove
+returns-7 c =
+    let t = c .before .before in
+    let k = t .before .before in
+    let l = k .before .before in
+    let s = l .before .before in
+    stage-weighed (s .pre .0) (l .before .layout-at .ensures) (l .layout-at2 .ensures) (k .enum-told9 .given .1) refl (s .args .run)
+    (t .enum-told10 .given .1) (s .pre .1) (s .pre .2) (c .apply-single-rows .ensures)
+
+enum-told-11 : tie.Need-enum-told-11
+enum-told-11 c = search needs
+
+undo-single-rows-requires : tie.Need-undo-single-rows-requires
+unfolding isMove
+undo-single-rows-requires c κs =
+    let t = c .before in
+    let k = t .before .before in
+    let l = k .before .before in
+    let s = l .before .before in (
+      stage-asks (s .pre .0) (l .before .layout-at .ensures) (l .layout-at2 .ensures) (k .enum-told9 .given .1) refl (s .args .run)
+          (t .enum-told11 .given .1) (s .pre .1) (s .pre .2),
+      k .enum-told9 .given .1,
+    )
+
+returns-8 : tie.Need-returns-8
+unfolding isMove
+returns-8 c =
+    let t = c .before .before in
+    let k = t .before .before in
+    let l = k .before .before in
+    let s = l .before .before in
+    stage-weighed (s .pre .0) (l .before .layout-at .ensures) (l .layout-at2 .ensures) (k .enum-told9 .given .1) refl (s .args .run)
+    (t .enum-told11 .given .1) (s .pre .1) (s .pre .2) (c .undo-single-rows .ensures)
+
+enum-told-12 : tie.Need-enum-told-12
+enum-told-12 c = search needs
+
+allow-rows-requires-3 : tie.Need-allow-rows-requires-3
+unfolding isMove
+allow-rows-requires-3 c κs =
+    let t = c .before in
+    let k = t .before .before in
+    let l = k .before .before in
+    let s = l .before .before in
+    stage-asks (s .pre .0) (l .before .layout-at .ensures) (l .layout-at2 .ensures) (k .enum-told9 .given .1) refl (s .args .run)
+    (t .enum-told12 .given .1) (s .pre .1) (s .pre .2)
+
+returns-9 : tie.Need-returns-9
+unfolding isMove
+returns-9 c =
+    let t = c .before .before in
+    let k = t .before .before in
+    let l = k .before .before in
+    let s = l .before .before in
+    stage-weighed (s .pre .0) (l .before .layout-at .ensures) (l .layout-at2 .ensures) (k .enum-told9 .given .1) refl (s .args .run)
+    (t .enum-told12 .given .1) (s .pre .1) (s .pre .2) (c .allow-rows3 .ensures)
+
+enum-told-13 : tie.Need-enum-told-13
+enum-told-13 c = search needs
+
+move-pair-requires : tie.Need-move-pair-requires
+unfolding layoutAt layoutBy
+move-pair-requires c κs =
+    let k = c .before in
+    let l = k .before .before in
+    let p = l .before .before .pre .0 in
+    let q = sym (ap (λ f. f .kind) (l .layout-at2 .ensures)) ∙ k .enum-told13 .given .1 in
+    rw (l .before .layout-at .ensures, l .layout-at2 .ensures)
+    (moves (p .most1) (p .column) (p .match ∙ q), moves (p .most2) (p .row) q)
+
+returns-10 : tie.Need-returns-10
+unfolding layoutAt layoutBy
+returns-10 c =
+    let k = c .before .before in
+    let l = k .before .before in
+    let s = l .before .before in
+    let x = s .args .x .now in
     let p = s .pre .0 in
-    let low1 = row-inside (p .some1) (p .column) in
-    let low2 = row-inside (p .some2) (p .row) in
-    let room : s .args .n1 * s .args .n2 ≤ length (s .args .x .now) = omega
-    (arith, s .pre .2, mul-le-mul (p .most1) (p .most2)) in
-    let stage = weights-are _ _ _ _ _ _ (p .column) (p .row) (p .match) (no-kind e) (p .most2) low1 low2 (p .most1)
-    (s .args .x .now) room (s .args .run) in (
-      rw (e .before .before .before .layout-at .ensures, e .before .before .layout-at2 .ensures, stage) at
-          (c .run-weights .ensures .0),
-      c .run-weights .ensures .1,
+    let q = p .match ∙ sym (ap (λ f. f .kind) (l .layout-at2 .ensures)) ∙ k .enum-told13 .given .1 in
+    let e = rw (l .before .layout-at .ensures, l .layout-at2 .ensures) at (c .move-pair .ensures) in (
+      step-moves e (moves-are _ _ _ _ _ _ (p .match) q (s .args .run) x) (moved-bounded _ _ _ (s .pre .1)),
+      ap length (e ∙ moved-scattered _ _ _ x) ∙ length-scattered _ _ _ x ∙ s .pre .2,
     )
 
 pub run-stage-spec : {M : Type 1} → statement M
 run-stage-spec =
     tie.close
-    (tie.spec layout-at-requires layout-at-requires-2 is-move-requires move-pair-requires returns run-weights-requires returns-2)
+    (tie.spec layout-at-requires layout-at-requires-2 enum-told enum-told-2 apply-lower-rows-requires returns enum-told-3 undo-lower-rows-requires returns-2 enum-told-4 allow-rows-requires returns-3 enum-told-5 enum-told-6 apply-upper-rows-requires returns-4 enum-told-7 undo-upper-rows-requires returns-5 enum-told-8 allow-rows-requires-2 returns-6 enum-told-9 enum-told-10 apply-single-rows-requires returns-7 enum-told-11 undo-single-rows-requires returns-8 enum-told-12 allow-rows-requires-3 returns-9 enum-told-13 move-pair-requires returns-10)
