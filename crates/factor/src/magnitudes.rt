@@ -6,6 +6,8 @@ ghost use lib.IntN.{pos, natAbs};
 ghost use Rattle.whole.specs.Diff.{Within};
 ghost use Rattle.rules.specs.Numbers.{unit, mostEntry};
 ghost use Rattle.factor.specs.Magnitudes.{magnitudesOf, Entries, whole};
+use rules::Block;
+use rules::Sheet;
 use sheetread::factors::size;
 
 // |z|
@@ -20,11 +22,11 @@ fn magnitude(z: i32) -> i32
 }
 
 // The magnitudes of m numbers from place p on.
-pub fn magnitudes(a: &[i32], p: usize, m: usize) -> [i32; 16]
+pub fn magnitudes(a: &[i32], p: usize, m: usize) -> [i32; Block::LINE]
     requires { ⌜ Entries (now a) p m ⌝ }
     ensures { λ r. ⌜ r ≡ magnitudesOf (now (a .entry)) p m ⌝ }
 {
-    let mut b = [0i32; 16];
+    let mut b = [0i32; Block::LINE];
     for j in 0..m {
         b[j] = magnitude(a[p + j]);
     }
@@ -36,7 +38,7 @@ fn is_whole(z: i32) -> bool
     requires { ⌜ Within mostEntry z ⌝ }
     ensures { λ r. ⌜ r ≡ eqb (natAbs z % unit) 0 ⌝ }
 {
-    size(magnitude(z)) % 4096 == 0
+    size(magnitude(z)) % Sheet::WHOLE == 0
 }
 
 // Whether m numbers from place p on are all multiples of 4096.

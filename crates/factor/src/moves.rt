@@ -10,10 +10,11 @@ ghost use Rattle.factor.specs.MovedInPlace.{LineIn, movedFrom, movedLine
 use crate::Layout;
 use crate::run::Task;
 use crate::run::is_inverse;
+use rules::Block;
 use sheetread::factors::count_at;
 
 // The numbers of a line into an array aside. The array is lent: by value it would stand on the stack three times.
-fn copy_line(x: &[i32], n: usize, k: usize, s: usize, v: &mut [i32; 16])
+fn copy_line(x: &[i32], n: usize, k: usize, s: usize, v: &mut [i32; Block::LINE])
     requires { ⌜ (n ≤ mostOrder) × LineIn n k s (now x) ⌝ }
     ensures { λ _. ⌜ now (v .exit) ≡ fill n (λ m. at (now (x .entry)) (k + m * s)) (now (v .entry)) ⌝ }
 {
@@ -37,7 +38,7 @@ pub fn move_from(
     sheet: &[i32],
     f: Layout,
     task: Task,
-    old: &[i32; 16],
+    old: &[i32; Block::LINE],
     x: &mut [i32],
     k: usize,
     s: usize,
@@ -64,7 +65,7 @@ pub fn move_line(sheet: &[i32], f: Layout, task: Task, x: &mut [i32], k: usize, 
         (now (x .entry)) ⌝ }
 {
     let n = f.order;
-    let mut old = [0i32; 16];
+    let mut old = [0i32; Block::LINE];
     copy_line(x, n, k, s, &mut old);
     move_from(sheet, f, task, &old, x, k, s);
 }

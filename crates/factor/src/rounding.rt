@@ -1,32 +1,34 @@
 // One element of a stage: the sum rounded, the sign, the bound. In 64 bits; each `requires` says that nothing wraps.
 ghost use mathlib.Core.Path.{_≡_};
+ghost use Prim.Native.Nat.{_-_, _/_};
 ghost use lib.Dec.{T, leb};
 ghost use lib.IntN.{pos, natAbs, _+ℤ_, _-ℤ_, _*ℤ_};
-ghost use lib.Signed.{nonNeg, shrZ};
+ghost use lib.Signed.{nonNeg};
 ghost use mir.Syntax.{w64};
 ghost use mir.Val.{SFits};
 ghost use Rattle.whole.specs.Laws.{Sign};
 ghost use Rattle.rules.specs.Numbers.{unit, unit²};
-ghost use Rattle.rules.specs.Stages.{R, share};
+ghost use Rattle.rules.specs.Stages.{R, share, ceiling};
 use rules::Rule;
+use rules::Scale;
 
 // "R(s) is the floor of (s + 2048)/4096": a shift to the right is a floor, also below zero, so -2048 gives 0 and -2049 gives -1.
 pub fn round_line(rule: Rule, s: i64) -> i64
-    requires { ⌜ SFits w64 (s +ℤ pos 2048) × SFits w64 (R rule unit s) ⌝ }
+    requires { ⌜ SFits w64 (s +ℤ pos (unit / 2)) × SFits w64 (R rule unit s) ⌝ }
     ensures { λ r. ⌜ r ≡ R rule unit s ⌝ }
 {
     match rule {
-        Rule::Nearest => return (s + 2048) >> 12,
+        Rule::Nearest => return (s + Scale::LINE_HALF) >> Scale::LINE_BITS,
     }
 }
 
 // "R2(s) is the floor of (s + 8388608)/16777216", also below zero: -8388608 gives 0 and -8388609 gives -1.
 pub fn round_joint(rule: Rule, s: i64) -> i64
-    requires { ⌜ SFits w64 (s +ℤ pos 8388608) × SFits w64 (R rule unit² s) ⌝ }
+    requires { ⌜ SFits w64 (s +ℤ pos (unit² / 2)) × SFits w64 (R rule unit² s) ⌝ }
     ensures { λ r. ⌜ r ≡ R rule unit² s ⌝ }
 {
     match rule {
-        Rule::Nearest => return (s + 8388608) >> 24,
+        Rule::Nearest => return (s + Scale::JOINT_HALF) >> Scale::JOINT_BITS,
     }
 }
 
@@ -35,16 +37,16 @@ pub fn share_of(rule: Rule) -> i64
     ensures { λ r. ⌜ r ≡ pos (share rule) ⌝ }
 {
     match rule {
-        Rule::Nearest => return 2048,
+        Rule::Nearest => return Rule::SHARE,
     }
 }
 
 // The quotient s / 4096 upward, for an allowance.
 pub fn raise_line(s: i64) -> i64
-    requires { ⌜ SFits w64 (s +ℤ pos 4095) × SFits w64 (shrZ (s +ℤ pos 4095) 4096) ⌝ }
-    ensures { λ r. ⌜ r ≡ shrZ (s +ℤ pos 4095) 4096 ⌝ }
+    requires { ⌜ SFits w64 (s +ℤ pos (unit - 1)) × SFits w64 (ceiling unit s) ⌝ }
+    ensures { λ r. ⌜ r ≡ ceiling unit s ⌝ }
 {
-    (s + 4095) >> 12
+    (s + Scale::LINE_UP) >> Scale::LINE_BITS
 }
 
 // d·x + q: an element applied. A sign flips the value, not the rounding.

@@ -7,6 +7,7 @@ ghost use Rattle.laws.specs.Accepted.{Accepted};
 ghost use Rattle.sheetread.specs.Starts.{Starts};
 ghost use Rattle.factor.specs.Tasks.{byNearest, isInverse, inputsOf, numberOf, nthStage};
 use rules::Rule;
+use rules::Sheet;
 use sheetread::factors::count_at;
 
 // Numbers through the stages, first to last; back through them, last to first; or the allowances of the coefficients, first to
@@ -84,7 +85,7 @@ pub fn nth_stage(task: Task, many: usize, t: usize) -> usize
 }
 
 // Where that factor starts.
-pub fn nth_start(task: Task, sheet: &[i32], starts: &[u16; 32], t: usize) -> usize
+pub fn nth_start(task: Task, sheet: &[i32], starts: &[u16; Sheet::FACTORS], t: usize) -> usize
     requires { ⌜ Accepted (now sheet) × Starts (now sheet) (now starts) × (t < count (now sheet) 1) ⌝ }
     ensures { λ r. ⌜ r ≡ start (now (sheet .entry)) (nthStage task (count (now (sheet .entry)) 1) t) ⌝ }
 {

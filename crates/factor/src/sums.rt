@@ -6,10 +6,11 @@ ghost use lib.ListN.{length, drop};
 ghost use mir.Syntax.{w64};
 ghost use mir.Val.{SFits};
 ghost use Rattle.whole.specs.Sum.{sum};
-ghost use Rattle.rules.specs.Numbers.{mostAllowance, at};
+ghost use Rattle.rules.specs.Numbers.{mostOrder, mostAllowance, at};
 ghost use Rattle.factor.specs.Layouts.{along};
 ghost use Rattle.factor.specs.SumBounds.{Terms, RowIn, Bounded};
 use crate::Row;
+use rules::Block;
 
 // One term more.
 pub fn with_term(sum: i64, a: i32, x: i32) -> i64
@@ -41,8 +42,8 @@ pub fn products_sum_from(a: &[i32], x: &[i32], column: usize, m: usize) -> i64
 }
 
 // The entries of row m, each times the number of its column.
-pub fn row_sum(sheet: &[i32], r: Row, m: usize, x: &[i32; 16]) -> i64
-    requires { ⌜ RowIn (now sheet) 16 r m × Bounded mostAllowance (now x) ⌝ }
+pub fn row_sum(sheet: &[i32], r: Row, m: usize, x: &[i32; Block::LINE]) -> i64
+    requires { ⌜ RowIn (now sheet) mostOrder r m × Bounded mostAllowance (now x) ⌝ }
     ensures { λ s. ⌜ s ≡ along (at (now (sheet .entry))) r m (now (x .entry)) ⌝ }
 {
     let at = r.at;

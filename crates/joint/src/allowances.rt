@@ -1,12 +1,12 @@
 // One element's allowance: v has the sums of its row over the columns, b is its allowance so far.
 ghost use mathlib.Core.Path.{_≡_};
-ghost use Prim.Native.Nat.{_+_, _≤_, _<_};
+ghost use Prim.Native.Nat.{_+_, _-_, _≤_, _<_};
 ghost use lib.IntN.{pos, _+ℤ_};
 ghost use lib.ListN.{replicate};
-ghost use lib.Signed.{shrZ};
 ghost use mir.Syntax.{w64};
 ghost use mir.Val.{SFits};
-ghost use Rattle.rules.specs.Numbers.{mostAllowance};
+ghost use Rattle.rules.specs.Numbers.{mostOrder, unit², mostAllowance};
+ghost use Rattle.rules.specs.Stages.{ceiling};
 ghost use Rattle.factor.specs.SumBounds.{Bounded};
 ghost use Rattle.factor.specs.LayoutInSheet.{InSheet};
 ghost use Rattle.joint.specs.Allowances.{AllowanceGiven, magnitudeSums, magnitudeSum, wholeRow, shareOf, allowedAt};
@@ -19,14 +19,17 @@ use factor::magnitudes::magnitudes;
 use factor::rounding::raised;
 use factor::rounding::share_of;
 use factor::row_of;
+use rules::Block;
 use rules::Rule;
+use rules::Scale;
+use rules::Sheet;
 
 // The quotient s / 16777216 upward.
 fn raise_joint(s: i64) -> i64
-    requires { ⌜ SFits w64 (s +ℤ pos 16777215) × SFits w64 (shrZ (s +ℤ pos 16777215) 16777216) ⌝ }
-    ensures { λ r. ⌜ r ≡ shrZ (s +ℤ pos 16777215) 16777216 ⌝ }
+    requires { ⌜ SFits w64 (s +ℤ pos (unit² - 1)) × SFits w64 (ceiling unit² s) ⌝ }
+    ensures { λ r. ⌜ r ≡ ceiling unit² s ⌝ }
 {
-    (s + 16777215) >> 24
+    (s + Scale::JOINT_UP) >> Scale::JOINT_BITS
 }
 
 // The sums of row i over the n columns of a block of allowances, with magnitudes, into v.
@@ -34,12 +37,12 @@ pub fn magnitude_sums_at(
     col: &[i32],
     f: Layout,
     i: usize,
-    b: &[i32; 256],
+    b: &[i32; Block::CELLS],
     n: usize,
-    v: &mut [i64; 16],
+    v: &mut [i64; Block::LINE],
 )
-    requires { ⌜ InSheet (now col) f × (i < f .order) × (n ≤ 16) × Bounded mostAllowance (now b)
-        × (now v ≡ replicate 16 (pos 0)) ⌝ }
+    requires { ⌜ InSheet (now col) f × (i < f .order) × (n ≤ mostOrder) × Bounded mostAllowance (now b)
+        × (now v ≡ replicate mostOrder (pos 0)) ⌝ }
     ensures { λ _. ⌜ now (v .exit) ≡ magnitudeSums (now (col .entry)) f i (now (b .entry)) n ⌝ }
 {
     let r = row_of(f, i);
@@ -47,11 +50,11 @@ pub fn magnitude_sums_at(
     let left = r.left;
     let right = r.right;
     let a = magnitudes(col, at, left + right);
-    column_sums(&a, Row { at: 0, left, right }, i, 4096, b, n, v)
+    column_sums(&a, Row { at: 0, left, right }, i, Sheet::UNIT, b, n, v)
 }
 
 // The sum of the element in column j, with magnitudes.
-fn magnitude_sum_at(row: &[i32], f: Layout, j: usize, v: &[i64; 16], b: i32) -> i64
+fn magnitude_sum_at(row: &[i32], f: Layout, j: usize, v: &[i64; Block::LINE], b: i32) -> i64
     requires { ⌜ AllowanceGiven (now row) f j (now v) b ⌝ }
     ensures { λ r. ⌜ r ≡ magnitudeSum (now (row .entry)) f j (now (v .entry)) b ⌝ }
 {
@@ -60,7 +63,15 @@ fn magnitude_sum_at(row: &[i32], f: Layout, j: usize, v: &[i64; 16], b: i32) -> 
     let left = r.left;
     let right = r.right;
     let a = magnitudes(row, at, left + right);
-    joint_sum(&a, Row { at: 0, left, right }, j, 4096, 4096, v, b)
+    joint_sum(
+        &a,
+        Row { at: 0, left, right },
+        j,
+        Sheet::UNIT,
+        Sheet::UNIT,
+        v,
+        b,
+    )
 }
 
 // Whether row m has only multiples of 4096.
@@ -95,7 +106,7 @@ pub fn allowed_at(
     f: Layout,
     j: usize,
     whole: bool,
-    v: &[i64; 16],
+    v: &[i64; Block::LINE],
     b: i32,
 ) -> i64
     requires { ⌜ AllowanceGiven (now row) f j (now v) b ⌝ }

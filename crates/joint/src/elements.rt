@@ -6,7 +6,7 @@ ghost use mir.Syntax.{w32, w64};
 ghost use mir.Val.{SFits};
 ghost use Rattle.whole.specs.Diff.{Within};
 ghost use Rattle.whole.specs.Laws.{Sign};
-ghost use Rattle.rules.specs.Numbers.{bound};
+ghost use Rattle.rules.specs.Numbers.{unit, bound};
 ghost use Rattle.factor.specs.SumBounds.{Bounded};
 ghost use Rattle.factor.specs.LayoutInSheet.{InSheet};
 ghost use Rattle.joint.specs.Sums.{mostColumn};
@@ -20,7 +20,10 @@ use factor::Layout;
 use factor::rounding::round_joint;
 use factor::rounding::undone;
 use factor::row_of;
+use rules::Block;
 use rules::Rule;
+use rules::Scale;
+use rules::Sheet;
 
 // The sign of row m.
 pub fn sign_at(sheet: &[i32], f: Layout, m: usize) -> i32
@@ -33,10 +36,10 @@ pub fn sign_at(sheet: &[i32], f: Layout, m: usize) -> i32
 
 // A sign on the diagonal, inside a sum.
 pub fn diagonal_of(d: i32) -> i32
-    requires { ⌜ SFits w32 (pos 4096 *ℤ d) ⌝ }
+    requires { ⌜ SFits w32 (pos unit *ℤ d) ⌝ }
     ensures { λ r. ⌜ r ≡ diagonalOf d ⌝ }
 {
-    4096 * d
+    Sheet::UNIT * d
 }
 
 // The sign of an element: "A(i,i)·B(j,j)".
@@ -48,7 +51,14 @@ pub fn both_signs(d: i32, e: i32) -> i32
 }
 
 // The sums of row i over the n columns of a block, into v.
-pub fn sums_at(col: &[i32], f: Layout, i: usize, x: &[i32; 256], n: usize, v: &mut [i64; 16])
+pub fn sums_at(
+    col: &[i32],
+    f: Layout,
+    i: usize,
+    x: &[i32; Block::CELLS],
+    n: usize,
+    v: &mut [i64; Block::LINE],
+)
     requires { ⌜ RowGiven (now col) f i (now x) n (now v) ⌝ }
     ensures { λ _. ⌜ now (v .exit) ≡ sumsAt (now (col .entry)) f i (now (x .entry)) n ⌝ }
 {
@@ -64,7 +74,14 @@ pub fn sums_at(col: &[i32], f: Layout, i: usize, x: &[i32; 256], n: usize, v: &m
 }
 
 // The same without row i itself.
-pub fn rest_sums_at(col: &[i32], f: Layout, i: usize, x: &[i32; 256], n: usize, v: &mut [i64; 16])
+pub fn rest_sums_at(
+    col: &[i32],
+    f: Layout,
+    i: usize,
+    x: &[i32; Block::CELLS],
+    n: usize,
+    v: &mut [i64; Block::LINE],
+)
     requires { ⌜ RowGiven (now col) f i (now x) n (now v) ⌝ }
     ensures { λ _. ⌜ now (v .exit) ≡ restSumsAt (now (col .entry)) f i (now (x .entry)) n ⌝ }
 {
@@ -72,7 +89,7 @@ pub fn rest_sums_at(col: &[i32], f: Layout, i: usize, x: &[i32; 256], n: usize, 
 }
 
 // The rounded sum of the element in column j, where v has nothing of the element's own number.
-fn rounded_rest_at(rule: Rule, row: &[i32], f: Layout, j: usize, v: &[i64; 16]) -> i64
+fn rounded_rest_at(rule: Rule, row: &[i32], f: Layout, j: usize, v: &[i64; Block::LINE]) -> i64
     requires { ⌜ InSheet (now row) f × (j < f .order) × Bounded mostColumn (now v) ⌝ }
     ensures { λ r. ⌜ r ≡ roundedRest rule (now (row .entry)) f j (now (v .entry)) ⌝ }
 {
@@ -88,7 +105,15 @@ fn rounded_rest_at(rule: Rule, row: &[i32], f: Layout, j: usize, v: &[i64; 16]) 
 }
 
 // What the element was, where v has of its own row the numbers recovered before it.
-pub fn undone_at(rule: Rule, row: &[i32], f: Layout, j: usize, d: i32, v: &[i64; 16], x: i32) -> i64
+pub fn undone_at(
+    rule: Rule,
+    row: &[i32],
+    f: Layout,
+    j: usize,
+    d: i32,
+    v: &[i64; Block::LINE],
+    x: i32,
+) -> i64
     requires { ⌜ ElementGiven (now row) f j d (now v) x ⌝ }
     ensures { λ r. ⌜ r ≡ undoneRest rule (now (row .entry)) f j d (now (v .entry)) x ⌝ }
 {
@@ -115,7 +140,7 @@ pub fn with_diagonal(sum: i64, d: i32, w: i64) -> i64
     requires { ⌜ Within mostJoint sum × Sign d × Within mostColumn w ⌝ }
     ensures { λ r. ⌜ r ≡ sum +ℤ (diagonalOf d *ℤ w) ⌝ }
 {
-    sum + 4096 * turned(d, w)
+    sum + Scale::LINE * turned(d, w)
 }
 
 // What an element becomes whose sum s has its own term in it: the number x, times the signs d of its row and e of its column. The

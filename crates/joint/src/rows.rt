@@ -23,7 +23,7 @@ pub fn allow_row(
     row: &[i32],
     fb: Layout,
     i: usize,
-    x: &mut [i32; 256],
+    x: &mut [i32; Block::CELLS],
 ) -> Outcome
     requires { ⌜ InSheet (now col) fa × InSheet (now row) fb × (i < fa .order) × Bounded mostAllowance (now x) ⌝ }
     ensures { λ r. ⌜ RowDone mostAllowance
@@ -32,7 +32,7 @@ pub fn allow_row(
 {
     let n = fb.order;
     let whole = is_whole_row(col, fa, i);
-    let mut v = [0i64; 16];
+    let mut v = [0i64; Block::LINE];
     magnitude_sums_at(col, fa, i, x, n, &mut v);
     for j in 0..n {
         let e = i * n + j;

@@ -8,12 +8,13 @@ ghost use mir.Syntax.{w64};
 ghost use mir.Val.{SFits};
 ghost use Rattle.whole.specs.Diff.{Within};
 ghost use Rattle.whole.specs.Sum.{sum};
-ghost use Rattle.rules.specs.Numbers.{mostEntry, mostAllowance, at};
+ghost use Rattle.rules.specs.Numbers.{mostOrder, mostEntry, mostCells, mostAllowance, at};
 ghost use Rattle.factor.specs.SumBounds.{Bounded, RowIn};
 ghost use Rattle.joint.specs.Sums.{added, rowsSum, sideWith, withFour, entriesSum, columnSums, restSums, jointSum};
 ghost use Rattle.joint.specs.Sums.{mostColumn, mostRest, Band, Adding, Side, Wide};
 use factor::Row;
 use factor::sums::with_term;
+use rules::Block;
 
 // One term more: a weight times a sum over a column.
 pub fn with_sum(sum: i64, a: i32, v: i64) -> i64
@@ -24,7 +25,7 @@ pub fn with_sum(sum: i64, a: i32, v: i64) -> i64
 }
 
 // The m numbers of a from place p on, each times one of v from place k on.
-pub fn wide_sum(a: &[i32], p: usize, v: &[i64; 16], k: usize, m: usize) -> i64
+pub fn wide_sum(a: &[i32], p: usize, v: &[i64; Block::LINE], k: usize, m: usize) -> i64
     requires { ⌜ Wide (now a) p (now v) k m ⌝ }
     ensures { λ s. ⌜ s ≡ sum m (λ j. at (now (a .entry)) (p + j) *ℤ at (now (v .entry)) (k + j)) ⌝ }
 {
@@ -37,8 +38,8 @@ pub fn wide_sum(a: &[i32], p: usize, v: &[i64; 16], k: usize, m: usize) -> i64
 
 // One row of the block more: a times each of its w numbers from place k on, into the sums v. Sums are lent, so that there is one
 // row of them, and go row by row, since the numbers of a row lie side by side.
-fn add_row(a: i32, x: &[i32; 256], k: usize, w: usize, v: &mut [i64; 16])
-    requires { ⌜ (w ≤ 16) × (k + w ≤ 256) × Within mostEntry a
+fn add_row(a: i32, x: &[i32; Block::CELLS], k: usize, w: usize, v: &mut [i64; Block::LINE])
+    requires { ⌜ (w ≤ mostOrder) × (k + w ≤ mostCells) × Within mostEntry a
         × Bounded mostAllowance (now x) × Bounded mostColumn (now v) ⌝ }
     ensures { λ _. ⌜ now (v .exit) ≡ added w (λ c. a *ℤ at (now (x .entry)) (k + c)) (now (v .entry)) ⌝ }
 {
@@ -53,11 +54,11 @@ fn add_rows(
     a: &[i32],
     p: usize,
     m: usize,
-    x: &[i32; 256],
+    x: &[i32; Block::CELLS],
     k: usize,
     n: usize,
     w: usize,
-    v: &mut [i64; 16],
+    v: &mut [i64; Block::LINE],
 )
     requires { ⌜ Adding (now a) p m (now x) k n w (now v) ⌝ }
     ensures { λ _. ⌜ now (v .exit) ≡ added w (rowsSum (now (a .entry)) p m (now (x .entry)) k n) (now (v .entry)) ⌝ }
@@ -68,8 +69,8 @@ fn add_rows(
 }
 
 // Four sums into their columns, from c on.
-fn put_four(t: &[i64; 16], v: &mut [i64; 16], c: usize)
-    requires { ⌜ (c + 4 ≤ 16) × Bounded mostColumn (now t) ⌝ }
+fn put_four(t: &[i64; Block::LINE], v: &mut [i64; Block::LINE], c: usize)
+    requires { ⌜ (c + 4 ≤ mostOrder) × Bounded mostColumn (now t) ⌝ }
     ensures { λ _. ⌜ now (v .exit) ≡ withFour c (now (t .entry)) (now (v .entry)) ⌝ }
 {
     v[c] = t[0];
@@ -94,16 +95,16 @@ fn sums_by_fours(
     a: &[i32],
     p: usize,
     m: usize,
-    x: &[i32; 256],
+    x: &[i32; Block::CELLS],
     k: usize,
     n: usize,
-    v: &mut [i64; 16],
+    v: &mut [i64; Block::LINE],
 )
-    requires { ⌜ Side (now a) p m (now x) k n × (now v ≡ replicate 16 (pos 0)) × (n % 4 ≡ 0) ⌝ }
-    ensures { λ _. ⌜ now (v .exit) ≡ added n (rowsSum (now (a .entry)) p m (now (x .entry)) k n) (replicate 16 (pos 0)) ⌝ }
+    requires { ⌜ Side (now a) p m (now x) k n × (now v ≡ replicate mostOrder (pos 0)) × (n % 4 ≡ 0) ⌝ }
+    ensures { λ _. ⌜ now (v .exit) ≡ added n (rowsSum (now (a .entry)) p m (now (x .entry)) k n) (replicate mostOrder (pos 0)) ⌝ }
 {
     for g in 0..n / 4 {
-        let mut t = [0i64; 16];
+        let mut t = [0i64; Block::LINE];
         add_rows(a, p, m, x, k + 4 * g, n, 4, &mut t);
         put_four(&t, v, 4 * g);
     }
@@ -114,13 +115,13 @@ pub fn side_sums(
     a: &[i32],
     p: usize,
     m: usize,
-    x: &[i32; 256],
+    x: &[i32; Block::CELLS],
     k: usize,
     n: usize,
-    v: &mut [i64; 16],
+    v: &mut [i64; Block::LINE],
 )
-    requires { ⌜ Side (now a) p m (now x) k n × (now v ≡ replicate 16 (pos 0)) ⌝ }
-    ensures { λ _. ⌜ now (v .exit) ≡ added n (rowsSum (now (a .entry)) p m (now (x .entry)) k n) (replicate 16 (pos 0)) ⌝ }
+    requires { ⌜ Side (now a) p m (now x) k n × (now v ≡ replicate mostOrder (pos 0)) ⌝ }
+    ensures { λ _. ⌜ now (v .exit) ≡ added n (rowsSum (now (a .entry)) p m (now (x .entry)) k n) (replicate mostOrder (pos 0)) ⌝ }
 {
     if is_by_fours(n, 8) {
         sums_by_fours(a, p, m, x, k, n, v);
@@ -134,20 +135,20 @@ fn sums_by_fours_with(
     a: &[i32],
     p: usize,
     m: usize,
-    x: &[i32; 256],
+    x: &[i32; Block::CELLS],
     k: usize,
     n: usize,
     diagonal: i32,
     o: usize,
-    v: &mut [i64; 16],
+    v: &mut [i64; Block::LINE],
 )
-    requires { ⌜ Side (now a) p m (now x) k n × (now v ≡ replicate 16 (pos 0)) × (m ≤ 15) × (o + n ≤ 256)
+    requires { ⌜ Side (now a) p m (now x) k n × (now v ≡ replicate mostOrder (pos 0)) × (m ≤ 15) × (o + n ≤ mostCells)
         × Within mostEntry diagonal × (n % 4 ≡ 0) ⌝ }
     ensures { λ _. ⌜ now (v .exit) ≡ added n (sideWith (now (a .entry)) p m (now (x .entry)) k n diagonal o)
-        (replicate 16 (pos 0)) ⌝ }
+        (replicate mostOrder (pos 0)) ⌝ }
 {
     for g in 0..n / 4 {
-        let mut t = [0i64; 16];
+        let mut t = [0i64; Block::LINE];
         add_row(diagonal, x, o + 4 * g, 4, &mut t);
         add_rows(a, p, m, x, k + 4 * g, n, 4, &mut t);
         put_four(&t, v, 4 * g);
@@ -159,17 +160,17 @@ pub fn side_sums_with(
     a: &[i32],
     p: usize,
     m: usize,
-    x: &[i32; 256],
+    x: &[i32; Block::CELLS],
     k: usize,
     n: usize,
     diagonal: i32,
     o: usize,
-    v: &mut [i64; 16],
+    v: &mut [i64; Block::LINE],
 )
-    requires { ⌜ Side (now a) p m (now x) k n × (now v ≡ replicate 16 (pos 0)) × (m ≤ 15) × (o + n ≤ 256)
+    requires { ⌜ Side (now a) p m (now x) k n × (now v ≡ replicate mostOrder (pos 0)) × (m ≤ 15) × (o + n ≤ mostCells)
         × Within mostEntry diagonal ⌝ }
     ensures { λ _. ⌜ now (v .exit) ≡ added n (sideWith (now (a .entry)) p m (now (x .entry)) k n diagonal o)
-        (replicate 16 (pos 0)) ⌝ }
+        (replicate mostOrder (pos 0)) ⌝ }
 {
     if is_by_fours(n, 4) {
         sums_by_fours_with(a, p, m, x, k, n, diagonal, o, v);
@@ -180,8 +181,15 @@ pub fn side_sums_with(
 }
 
 // Row m of a matrix, its diagonal left out, times each of the n columns of the block, into v.
-pub fn rest_sums(a: &[i32], r: Row, m: usize, x: &[i32; 256], n: usize, v: &mut [i64; 16])
-    requires { ⌜ RowIn (now a) 16 r m × (n ≤ 16) × Bounded mostAllowance (now x) × (now v ≡ replicate 16 (pos 0)) ⌝ }
+pub fn rest_sums(
+    a: &[i32],
+    r: Row,
+    m: usize,
+    x: &[i32; Block::CELLS],
+    n: usize,
+    v: &mut [i64; Block::LINE],
+)
+    requires { ⌜ RowIn (now a) mostOrder r m × (n ≤ mostOrder) × Bounded mostAllowance (now x) × (now v ≡ replicate mostOrder (pos 0)) ⌝ }
     ensures { λ _. ⌜ now (v .exit) ≡ restSums (now (a .entry)) r m (now (x .entry)) n ⌝ }
 {
     let at = r.at;
@@ -197,12 +205,12 @@ pub fn column_sums(
     r: Row,
     m: usize,
     diagonal: i32,
-    x: &[i32; 256],
+    x: &[i32; Block::CELLS],
     n: usize,
-    v: &mut [i64; 16],
+    v: &mut [i64; Block::LINE],
 )
-    requires { ⌜ Band (now a) r m diagonal × (n ≤ 16)
-        × Bounded mostAllowance (now x) × (now v ≡ replicate 16 (pos 0)) ⌝ }
+    requires { ⌜ Band (now a) r m diagonal × (n ≤ mostOrder)
+        × Bounded mostAllowance (now x) × (now v ≡ replicate mostOrder (pos 0)) ⌝ }
     ensures { λ _. ⌜ now (v .exit) ≡ columnSums (now (a .entry)) r m diagonal (now (x .entry)) n ⌝ }
 {
     rest_sums(a, r, m, x, n, v);
@@ -210,7 +218,7 @@ pub fn column_sums(
 }
 
 // Row m of a matrix, its diagonal too, times the sums v, where w stands in column m.
-pub fn whole_sum(a: &[i32], r: Row, m: usize, diagonal: i32, v: &[i64; 16], w: i64) -> i64
+pub fn whole_sum(a: &[i32], r: Row, m: usize, diagonal: i32, v: &[i64; Block::LINE], w: i64) -> i64
     requires { ⌜ Band (now a) r m diagonal × Bounded mostColumn (now v) × Within mostRest w ⌝ }
     ensures { λ s. ⌜ s ≡ entriesSum (now (a .entry)) r m (at (now (v .entry))) +ℤ (diagonal *ℤ w) ⌝ }
 {
@@ -238,7 +246,7 @@ pub fn joint_sum(
     m: usize,
     diagonal: i32,
     other: i32,
-    v: &[i64; 16],
+    v: &[i64; Block::LINE],
     x: i32,
 ) -> i64
     requires { ⌜ Band (now a) r m diagonal × Within mostEntry other × Bounded mostColumn (now v)

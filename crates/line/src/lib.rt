@@ -10,6 +10,7 @@ use factor::run::nearest;
 use linerun::block::run_block;
 use rules::Answer;
 use rules::Rule;
+use rules::Sheet;
 use sheetcheck::checks::check_starts;
 use sheetread::factors::count_at;
 
@@ -18,7 +19,7 @@ fn call(run: Run, s: &[i32], x: &[i32], y: &mut [i32]) -> Answer
     requires { ⌜ NoneLent (run .task) (now x) ⌝ }
     ensures { λ r. ⌜ Gives r (now (y .exit)) (callOf run (line (now (s .entry))) (now (x .entry)) (now (y .entry))) ⌝ }
 {
-    let mut starts = [0u16; 32];
+    let mut starts = [0u16; Sheet::FACTORS];
     let a = check_starts(s, &mut starts);
     if a.number != 0 {
         return a;

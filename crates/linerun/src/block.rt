@@ -2,7 +2,7 @@
 ghost use mathlib.Core.Path.{_≡_};
 ghost use Prim.Native.Nat.{_≤_};
 ghost use lib.ListN.{length};
-ghost use Rattle.rules.specs.Numbers.{count};
+ghost use Rattle.rules.specs.Numbers.{mostOrder, count};
 ghost use Rattle.rules.specs.Calls.{Gives};
 ghost use Rattle.laws.specs.Accepted.{Accepted};
 ghost use Rattle.laws.specs.AnswersInTurn.{ranReply};
@@ -17,19 +17,21 @@ use factor::block::finish;
 use factor::bounds::is_inside;
 use factor::run::Run;
 use rules::Answer;
+use rules::Block;
+use rules::Sheet;
 
 // The lent numbers as a block. For allowances none are lent, and the block is all 0, which is where allowances start.
-fn load(x: &[i32]) -> [i32; 16]
-    requires { ⌜ length (now x) ≤ 16 ⌝ }
-    ensures { λ r. ⌜ r ≡ paddedBlock 16 (now (x .entry)) ⌝ }
+fn load(x: &[i32]) -> [i32; Block::LINE]
+    requires { ⌜ length (now x) ≤ mostOrder ⌝ }
+    ensures { λ r. ⌜ r ≡ paddedBlock mostOrder (now (x .entry)) ⌝ }
 {
-    let mut b = [0i32; 16];
+    let mut b = [0i32; Block::LINE];
     copy_front(x, &mut b, x.len());
     b
 }
 
 // 11 or 13, or what the run gives in y.
-fn run_any(run: Run, s: &[i32], starts: &[u16; 32], x: &[i32], y: &mut [i32]) -> Answer
+fn run_any(run: Run, s: &[i32], starts: &[u16; Sheet::FACTORS], x: &[i32], y: &mut [i32]) -> Answer
     requires { ⌜ Accepted (now s) × Starts (now s) (now starts)
         × (length (now x) ≡ inputsOf (run .task) (count (now s) 0)) × (length (now y) ≡ count (now s) 0) ⌝ }
     ensures { λ a. ⌜ Gives a (now (y .exit))
@@ -45,7 +47,13 @@ fn run_any(run: Run, s: &[i32], starts: &[u16; 32], x: &[i32], y: &mut [i32]) ->
 }
 
 // The same; a block of four is taken by itself, for its speed.
-pub fn run_block(run: Run, s: &[i32], starts: &[u16; 32], x: &[i32], y: &mut [i32]) -> Answer
+pub fn run_block(
+    run: Run,
+    s: &[i32],
+    starts: &[u16; Sheet::FACTORS],
+    x: &[i32],
+    y: &mut [i32],
+) -> Answer
     requires { ⌜ Accepted (now s) × Starts (now s) (now starts)
         × (length (now x) ≡ inputsOf (run .task) (count (now s) 0)) × (length (now y) ≡ count (now s) 0) ⌝ }
     ensures { λ a. ⌜ Gives a (now (y .exit))

@@ -18,6 +18,7 @@ use factor::run::Task;
 use factor::run::is_inverse;
 use factor::run::nth_start;
 use four::Four;
+use rules::Sheet;
 use sheetread::factors::count_at;
 
 // Whether it is a run of four numbers.
@@ -42,7 +43,7 @@ fn load_four(x: &[i32]) -> [i32; 4]
 }
 
 // All stages.
-fn run_stages_of_four(run: Run, sheet: &[i32], starts: &[u16; 32], x: [i32; 4]) -> Four
+fn run_stages_of_four(run: Run, sheet: &[i32], starts: &[u16; Sheet::FACTORS], x: [i32; 4]) -> Four
     requires { ⌜ Accepted (now sheet) × Starts (now sheet) (now starts) × (count (now sheet) 0 ≡ 4)
         × (run .task ≢ Task.Allowance) × Bounded bound x ⌝ }
     ensures { λ r. ⌜ (r .ok ≡ true →
@@ -65,7 +66,7 @@ fn run_stages_of_four(run: Run, sheet: &[i32], starts: &[u16; 32], x: [i32; 4]) 
 }
 
 // The run of the lent numbers, if it is one of four and accepted.
-pub fn run_four(run: Run, sheet: &[i32], starts: &[u16; 32], x: &[i32]) -> Four
+pub fn run_four(run: Run, sheet: &[i32], starts: &[u16; Sheet::FACTORS], x: &[i32]) -> Four
     requires { ⌜ Accepted (now sheet) × Starts (now sheet) (now starts)
         × (length (now x) ≡ inputsOf (run .task) (count (now sheet) 0)) ⌝ }
     ensures { λ r. ⌜ (r .ok ≡ true → (count (now (sheet .entry)) 0 ≡ 4)

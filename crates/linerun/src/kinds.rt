@@ -22,11 +22,12 @@ use factor::run::Outcome;
 use factor::sums::products_sum;
 use factor::sums::products_sum_from;
 use factor::sums::row_sum;
+use rules::Block;
 use rules::Kind;
 use rules::Rule;
 
 // The rounded sum of row m of a lower factor, whose entries start at place p.
-fn left_sum(rule: Rule, sheet: &[i32], f: Layout, p: usize, m: usize, x: &[i32; 16]) -> i64
+fn left_sum(rule: Rule, sheet: &[i32], f: Layout, p: usize, m: usize, x: &[i32; Block::LINE]) -> i64
     requires { ⌜ ElementGiven (now sheet) f m (now x) × (f .kind ≡ Kind.Lower) × (p ≡ rowOf f m .at) ⌝ }
     ensures { λ r. ⌜ r ≡ roundedSum rule (now (sheet .entry)) f (now (x .entry)) m ⌝ }
 {
@@ -34,7 +35,14 @@ fn left_sum(rule: Rule, sheet: &[i32], f: Layout, p: usize, m: usize, x: &[i32; 
 }
 
 // The rounded sum of row m of an upper factor, whose entries start at place p.
-fn right_sum(rule: Rule, sheet: &[i32], f: Layout, p: usize, m: usize, x: &[i32; 16]) -> i64
+fn right_sum(
+    rule: Rule,
+    sheet: &[i32],
+    f: Layout,
+    p: usize,
+    m: usize,
+    x: &[i32; Block::LINE],
+) -> i64
     requires { ⌜ ElementGiven (now sheet) f m (now x) × (f .kind ≡ Kind.Upper) × (p ≡ rowOf f m .at) ⌝ }
     ensures { λ r. ⌜ r ≡ roundedSum rule (now (sheet .entry)) f (now (x .entry)) m ⌝ }
 {
@@ -43,7 +51,7 @@ fn right_sum(rule: Rule, sheet: &[i32], f: Layout, p: usize, m: usize, x: &[i32;
 }
 
 // The rounded sum of row m of a factor with a single row: the others have no entries.
-fn single_sum(rule: Rule, sheet: &[i32], f: Layout, m: usize, x: &[i32; 16]) -> i64
+fn single_sum(rule: Rule, sheet: &[i32], f: Layout, m: usize, x: &[i32; Block::LINE]) -> i64
     requires { ⌜ ElementGiven (now sheet) f m (now x) × (f .kind ≡ Kind.Single) ⌝ }
     ensures { λ r. ⌜ r ≡ roundedSum rule (now (sheet .entry)) f (now (x .entry)) m ⌝ }
 {
@@ -54,7 +62,7 @@ fn single_sum(rule: Rule, sheet: &[i32], f: Layout, m: usize, x: &[i32; 16]) -> 
 }
 
 // A lower factor, applied: every element from the old block.
-pub fn lower(rule: Rule, sheet: &[i32], f: Layout, x: [i32; 16]) -> Passed
+pub fn lower(rule: Rule, sheet: &[i32], f: Layout, x: [i32; Block::LINE]) -> Passed
     requires { ⌜ InSheet (now sheet) f × (f .kind ≡ Kind.Lower) × Bounded bound x ⌝ }
     ensures { λ r. ⌜ Step bound (f .order) (fill (f .order) (appliedAt rule (now (sheet .entry)) f x) x) (r .outcome .ok)
         (r .block) ⌝ }
@@ -82,7 +90,7 @@ pub fn lower(rule: Rule, sheet: &[i32], f: Layout, x: [i32; 16]) -> Passed
 }
 
 // An upper factor, applied: every element from the old block.
-pub fn upper(rule: Rule, sheet: &[i32], f: Layout, x: [i32; 16]) -> Passed
+pub fn upper(rule: Rule, sheet: &[i32], f: Layout, x: [i32; Block::LINE]) -> Passed
     requires { ⌜ InSheet (now sheet) f × (f .kind ≡ Kind.Upper) × Bounded bound x ⌝ }
     ensures { λ r. ⌜ Step bound (f .order) (fill (f .order) (appliedAt rule (now (sheet .entry)) f x) x) (r .outcome .ok)
         (r .block) ⌝ }
@@ -110,7 +118,7 @@ pub fn upper(rule: Rule, sheet: &[i32], f: Layout, x: [i32; 16]) -> Passed
 }
 
 // A factor with a single row, applied: every element from the old block.
-pub fn single(rule: Rule, sheet: &[i32], f: Layout, x: [i32; 16]) -> Passed
+pub fn single(rule: Rule, sheet: &[i32], f: Layout, x: [i32; Block::LINE]) -> Passed
     requires { ⌜ InSheet (now sheet) f × (f .kind ≡ Kind.Single) × Bounded bound x ⌝ }
     ensures { λ r. ⌜ Step bound (f .order) (fill (f .order) (appliedAt rule (now (sheet .entry)) f x) x) (r .outcome .ok)
         (r .block) ⌝ }
@@ -136,7 +144,7 @@ pub fn single(rule: Rule, sheet: &[i32], f: Layout, x: [i32; 16]) -> Passed
 }
 
 // A lower factor, undone.
-pub fn lower_back(rule: Rule, sheet: &[i32], f: Layout, y: [i32; 16]) -> Passed
+pub fn lower_back(rule: Rule, sheet: &[i32], f: Layout, y: [i32; Block::LINE]) -> Passed
     requires { ⌜ InSheet (now sheet) f × (f .kind ≡ Kind.Lower) × (f .row < f .order) × Bounded bound y ⌝ }
     ensures { λ r. ⌜ Step bound (f .order) (undoneInPlace rule (now (sheet .entry)) f (f .order) y) (r .outcome .ok)
         (r .block) ⌝ }
@@ -165,7 +173,7 @@ pub fn lower_back(rule: Rule, sheet: &[i32], f: Layout, y: [i32; 16]) -> Passed
 }
 
 // An upper factor, undone.
-pub fn upper_back(rule: Rule, sheet: &[i32], f: Layout, y: [i32; 16]) -> Passed
+pub fn upper_back(rule: Rule, sheet: &[i32], f: Layout, y: [i32; Block::LINE]) -> Passed
     requires { ⌜ InSheet (now sheet) f × (f .kind ≡ Kind.Upper) × (f .row < f .order) × Bounded bound y ⌝ }
     ensures { λ r. ⌜ Step bound (f .order) (undoneInPlace rule (now (sheet .entry)) f (f .order) y) (r .outcome .ok)
         (r .block) ⌝ }
@@ -194,7 +202,7 @@ pub fn upper_back(rule: Rule, sheet: &[i32], f: Layout, y: [i32; 16]) -> Passed
 }
 
 // A factor with a single row, undone.
-pub fn single_back(rule: Rule, sheet: &[i32], f: Layout, y: [i32; 16]) -> Passed
+pub fn single_back(rule: Rule, sheet: &[i32], f: Layout, y: [i32; Block::LINE]) -> Passed
     requires { ⌜ InSheet (now sheet) f × (f .kind ≡ Kind.Single) × (f .row < f .order) × Bounded bound y ⌝ }
     ensures { λ r. ⌜ Step bound (f .order) (undoneInPlace rule (now (sheet .entry)) f (f .order) y) (r .outcome .ok)
         (r .block) ⌝ }
@@ -221,7 +229,7 @@ pub fn single_back(rule: Rule, sheet: &[i32], f: Layout, y: [i32; 16]) -> Passed
 }
 
 // A factor with weights, applied. A permutation has none, and does not come here.
-pub fn apply_weights(rule: Rule, sheet: &[i32], f: Layout, x: [i32; 16]) -> Passed
+pub fn apply_weights(rule: Rule, sheet: &[i32], f: Layout, x: [i32; Block::LINE]) -> Passed
     requires { ⌜ InSheet (now sheet) f × (f .kind ≢ Kind.Permutation) × Bounded bound x ⌝ }
     ensures { λ r. ⌜ Step bound (f .order) (fill (f .order) (appliedAt rule (now (sheet .entry)) f x) x) (r .outcome .ok)
         (r .block) ⌝ }
@@ -236,7 +244,7 @@ pub fn apply_weights(rule: Rule, sheet: &[i32], f: Layout, x: [i32; 16]) -> Pass
 }
 
 // A factor with weights, undone. A permutation has none, and does not come here.
-pub fn undo_weights(rule: Rule, sheet: &[i32], f: Layout, y: [i32; 16]) -> Passed
+pub fn undo_weights(rule: Rule, sheet: &[i32], f: Layout, y: [i32; Block::LINE]) -> Passed
     requires { ⌜ InSheet (now sheet) f × (f .kind ≢ Kind.Permutation) × (f .row < f .order) × Bounded bound y ⌝ }
     ensures { λ r. ⌜ Step bound (f .order) (undoneInPlace rule (now (sheet .entry)) f (f .order) y) (r .outcome .ok)
         (r .block) ⌝ }

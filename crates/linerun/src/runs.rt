@@ -11,10 +11,17 @@ use crate::steps::Passed;
 use factor::run::Outcome;
 use factor::run::Run;
 use factor::run::nth_start;
+use rules::Block;
+use rules::Sheet;
 use sheetread::factors::count_at;
 
 // The block after the last stage, or the stage that is refused: first to last, or, for an inverse run, last to first.
-pub fn run_stages(run: Run, sheet: &[i32], starts: &[u16; 32], x: [i32; 16]) -> Passed
+pub fn run_stages(
+    run: Run,
+    sheet: &[i32],
+    starts: &[u16; Sheet::FACTORS],
+    x: [i32; Block::LINE],
+) -> Passed
     requires { ⌜ Accepted (now sheet) × Starts (now sheet) (now starts) × Bounded (limitOf (run .task)) x ⌝ }
     ensures { λ r. ⌜ RunEnded (runBy run (count (now (sheet .entry)) 0) (lineStagesOf (now (sheet .entry))) x) (r .outcome)
         (r .block) ⌝ }

@@ -17,9 +17,10 @@ use factor::moves::move_from;
 use factor::run::Outcome;
 use factor::run::Run;
 use factor::run::Task;
+use rules::Block;
 
 // A permutation moves the numbers, whatever the task; a factor with weights is taken by the task.
-pub fn run_stage(run: Run, sheet: &[i32], n: usize, i: usize, x: [i32; 16]) -> Passed
+pub fn run_stage(run: Run, sheet: &[i32], n: usize, i: usize, x: [i32; Block::LINE]) -> Passed
     requires { ⌜ (1 ≤ n) × (n ≤ mostOrder) × FactorRead (now sheet) n i × Bounded (limitOf (run .task)) x ⌝ }
     ensures { λ r. ⌜ Step (limitOf (run .task)) n (takenBy run n (lineStage n (factorAt (now (sheet .entry)) n i)) x)
         (r .outcome .ok) (r .block) ⌝ }

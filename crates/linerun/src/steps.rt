@@ -4,7 +4,7 @@ ghost use mathlib.Core.Bool.{cond};
 ghost use Prim.Native.Nat.{_+_, _<_};
 ghost use lib.IntN.{pos, _+ℤ_, _-ℤ_, _*ℤ_};
 ghost use Rattle.whole.specs.Diff.{Within};
-ghost use Rattle.rules.specs.Numbers.{bound, mostAllowance, at};
+ghost use Rattle.rules.specs.Numbers.{mostOrder, bound, mostAllowance, at};
 ghost use Rattle.rules.specs.Stages.{share, fill};
 ghost use Rattle.factor.specs.Layouts.{along};
 ghost use Rattle.factor.specs.SumBounds.{Bounded, RowIn, Kept};
@@ -32,7 +32,7 @@ use rules::Rule;
 
 // The block by value, and how it ended. Nobody looks at the block of a stage that is refused.
 pub struct Passed {
-    pub block: [i32; 16],
+    pub block: [i32; Block::LINE],
     pub outcome: Outcome,
 }
 
@@ -42,8 +42,8 @@ pub fn apply_at(
     f: Layout,
     m: usize,
     q: i64,
-    x: &[i32; 16],
-    y: &mut [i32; 16],
+    x: &[i32; Block::LINE],
+    y: &mut [i32; Block::LINE],
 ) -> bool
     requires { ⌜ ElementGiven (now sheet) f m (now x) × Within mostRounded q ⌝ }
     ensures { λ r. ⌜ Kept bound ((at (now (sheet .entry)) (f .signs + m) *ℤ at (now (x .entry)) m) +ℤ q) m
@@ -54,7 +54,7 @@ pub fn apply_at(
 }
 
 // What element m was, by the rounded sum q of its row, in its place in the block, if it is in bound. Answers whether it is.
-pub fn undo_at(sheet: &[i32], f: Layout, m: usize, q: i64, x: &mut [i32; 16]) -> bool
+pub fn undo_at(sheet: &[i32], f: Layout, m: usize, q: i64, x: &mut [i32; Block::LINE]) -> bool
     requires { ⌜ ElementGiven (now sheet) f m (now x) × Within mostRounded q ⌝ }
     ensures { λ r. ⌜ Kept bound (at (now (sheet .entry)) (f .signs + m) *ℤ (at (now (x .entry)) m -ℤ q)) m
         (now (x .entry)) r (now (x .exit)) ⌝ }
@@ -75,8 +75,8 @@ fn row_share(rule: Rule, sheet: &[i32], p: usize, m: usize) -> i64
 }
 
 // The sum of the magnitudes of row m, each times the allowance of its column.
-fn magnitude_sum_at(sheet: &[i32], r: Row, m: usize, b: &[i32; 16]) -> i64
-    requires { ⌜ RowIn (now sheet) 16 r m × Bounded mostAllowance (now b) ⌝ }
+fn magnitude_sum_at(sheet: &[i32], r: Row, m: usize, b: &[i32; Block::LINE]) -> i64
+    requires { ⌜ RowIn (now sheet) mostOrder r m × Bounded mostAllowance (now b) ⌝ }
     ensures { λ s. ⌜ s ≡ along (magnitudeAt (now (sheet .entry))) r m (now (b .entry)) ⌝ }
 {
     let at = r.at;
@@ -87,7 +87,7 @@ fn magnitude_sum_at(sheet: &[i32], r: Row, m: usize, b: &[i32; 16]) -> i64
 }
 
 // What the allowance of element m becomes.
-fn allowed_at(rule: Rule, sheet: &[i32], f: Layout, m: usize, b: &[i32; 16]) -> i64
+fn allowed_at(rule: Rule, sheet: &[i32], f: Layout, m: usize, b: &[i32; Block::LINE]) -> i64
     requires { ⌜ InSheet (now sheet) f × (m < f .order) × Bounded mostAllowance (now b) ⌝ }
     ensures { λ r. ⌜ r ≡ allowedAt rule (now (sheet .entry)) f (now (b .entry)) m ⌝ }
 {
@@ -102,7 +102,7 @@ fn allowed_at(rule: Rule, sheet: &[i32], f: Layout, m: usize, b: &[i32; 16]) -> 
 }
 
 // The allowances after a factor with weights.
-pub fn allow_weights(rule: Rule, sheet: &[i32], f: Layout, b: [i32; 16]) -> Passed
+pub fn allow_weights(rule: Rule, sheet: &[i32], f: Layout, b: [i32; Block::LINE]) -> Passed
     requires { ⌜ InSheet (now sheet) f × Bounded mostAllowance b ⌝ }
     ensures { λ r. ⌜ Step mostAllowance (f .order) (fill (f .order) (allowedAt rule (now (sheet .entry)) f b) b)
         (r .outcome .ok) (r .block) ⌝ }

@@ -12,6 +12,7 @@ use factor::moves::either;
 use factor::moves::move_line;
 use factor::run::Task;
 use factor::run::is_inverse;
+use rules::Block;
 use sheetread::factors::count_at;
 
 // A row of one block as a row of another, where it starts at place k: applied, place j takes the number of place q(j) from o on;
@@ -101,7 +102,14 @@ fn move_lines(sheet: &[i32], f: Layout, task: Task, many: usize, w: usize, s: us
 
 // In place, Y(i,j) = X(p(i),q(j)), or back: the numbers of each row by the row sheet's permutation, then those of each column by
 // the column sheet's. There is no room for a copy of the block.
-pub fn move_pair(col: &[i32], fa: Layout, row: &[i32], fb: Layout, task: Task, x: &mut [i32; 256])
+pub fn move_pair(
+    col: &[i32],
+    fa: Layout,
+    row: &[i32],
+    fb: Layout,
+    task: Task,
+    x: &mut [i32; Block::CELLS],
+)
     requires { ⌜ Moves (now col) fa × Moves (now row) fb ⌝ }
     ensures { λ _. ⌜ now (x .exit) ≡ movedBy (isInverse task) (fa .order * fb .order)
         (sourceOf (now (col .entry)) fa (now (row .entry)) fb) (now (x .entry)) ⌝ }

@@ -10,6 +10,7 @@ use factor::run::nearest;
 use rectanglerun::block::run_block;
 use rules::Answer;
 use rules::Rule;
+use rules::Sheet;
 use sheetcheck::checks::check_pair_starts;
 use sheetread::factors::count_at;
 
@@ -19,8 +20,8 @@ fn call(run: Run, col: &[i32], row: &[i32], x: &[i32], y: &mut [i32]) -> Answer
     ensures { λ a. ⌜ Gives a (now (y .exit))
         (callOf run (joint (now (col .entry)) (now (row .entry))) (now (x .entry)) (now (y .entry))) ⌝ }
 {
-    let mut columns = [0u16; 32];
-    let mut rows = [0u16; 32];
+    let mut columns = [0u16; Sheet::FACTORS];
+    let mut rows = [0u16; Sheet::FACTORS];
     let a = check_pair_starts(col, row, &mut columns, &mut rows);
     if a.number != 0 {
         return a;

@@ -5,6 +5,7 @@ use factor::nth_undone;
 use factor::run::Outcome;
 use factor::run::Task;
 use joint::rows::allow_row;
+use rules::Block;
 use rules::Rule;
 
 // The allowances of all rows. The row that is undone last comes first, so that no row looks at one written before it.
@@ -14,7 +15,7 @@ pub fn allow_rows(
     fa: Layout,
     row: &[i32],
     fb: Layout,
-    x: &mut [i32; 256],
+    x: &mut [i32; Block::CELLS],
 ) -> Outcome
     requires { ⌜ Weighable Task.Allowance (now col) fa (now row) fb (now x) ⌝ }
     ensures { λ r. ⌜ Weighed Task.Allowance rule (now (col .entry)) fa (now (row .entry)) fb (now (x .entry))

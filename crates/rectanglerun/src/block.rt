@@ -15,14 +15,16 @@ use factor::bounds::is_inside;
 use factor::run::Run;
 use factor::run::number_of;
 use rules::Answer;
+use rules::Block;
+use rules::Sheet;
 
 // 11 or 13, or what the run gives in y. For allowances no numbers are lent: the block is all 0, which is where allowances start.
 pub fn run_block(
     run: Run,
     col: &[i32],
     row: &[i32],
-    columns: &[u16; 32],
-    rows: &[u16; 32],
+    columns: &[u16; Sheet::FACTORS],
+    rows: &[u16; Sheet::FACTORS],
     x: &[i32],
     y: &mut [i32],
 ) -> Answer
@@ -37,7 +39,7 @@ pub fn run_block(
         return Answer::refused(11, 0, 0);
     }
     let task = run.task;
-    let mut b = [0i32; 256];
+    let mut b = [0i32; Block::CELLS];
     let from = load(run, col, row, columns, rows, x, &mut b);
     let to = stop_of(task, col, columns, from);
     let r = run_stages(run, col, row, columns, rows, from, to, &mut b);

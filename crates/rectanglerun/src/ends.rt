@@ -5,7 +5,7 @@ ghost use mathlib.Core.Path.{_≡_};
 ghost use Prim.Native.Nat.{_≤_, _<_};
 ghost use lib.IntN.{pos};
 ghost use lib.ListN.{length, replicate};
-ghost use Rattle.rules.specs.Numbers.{bound, count};
+ghost use Rattle.rules.specs.Numbers.{mostCells, bound, count};
 ghost use Rattle.rules.specs.Stages.{inside};
 ghost use Rattle.laws.specs.Accepted.{Accepted};
 ghost use Rattle.sheetread.specs.Starts.{Starts};
@@ -19,10 +19,12 @@ use factor::run::Run;
 use factor::run::Task;
 use factor::run::nth_start;
 use pairmoves::move_into;
+use rules::Block;
+use rules::Sheet;
 use sheetread::factors::count_at;
 
 // Whether the factor in turn t is a permutation.
-fn is_moving(task: Task, sheet: &[i32], starts: &[u16; 32], t: usize) -> bool
+fn is_moving(task: Task, sheet: &[i32], starts: &[u16; Sheet::FACTORS], t: usize) -> bool
     requires { ⌜ Accepted (now sheet) × Starts (now sheet) (now starts) × (t < count (now sheet) 1) ⌝ }
     ensures { λ r. ⌜ r ≡ movesInTurn (now (sheet .entry)) task t ⌝ }
 {
@@ -36,8 +38,8 @@ fn move_in_turn(
     run: Run,
     col: &[i32],
     row: &[i32],
-    columns: &[u16; 32],
-    rows: &[u16; 32],
+    columns: &[u16; Sheet::FACTORS],
+    rows: &[u16; Sheet::FACTORS],
     t: usize,
     old: &[i32],
     x: &mut [i32],
@@ -61,14 +63,14 @@ pub fn load(
     run: Run,
     col: &[i32],
     row: &[i32],
-    columns: &[u16; 32],
-    rows: &[u16; 32],
+    columns: &[u16; Sheet::FACTORS],
+    rows: &[u16; Sheet::FACTORS],
     x: &[i32],
-    b: &mut [i32; 256],
+    b: &mut [i32; Block::CELLS],
 ) -> usize
     requires { ⌜ Matched (now col) (now row) × Starts (now col) (now columns) × Starts (now row) (now rows)
         × (length (now x) ≡ inputsOf (run .task) (sizeOf (now col) (now row))) × (inside bound (length (now x)) (now x) ≡ true)
-        × (now b ≡ replicate 256 (pos 0)) ⌝ }
+        × (now b ≡ replicate mostCells (pos 0)) ⌝ }
     ensures { λ r. ⌜ Loaded run (now (col .entry)) (now (row .entry)) (now (x .entry)) r (now (b .exit)) ⌝ }
 {
     let task = run.task;
@@ -84,7 +86,7 @@ pub fn load(
 }
 
 // Where the loop over the stages is to end, which begins at from: before the last one, if that is a pair of permutations.
-pub fn stop_of(task: Task, col: &[i32], columns: &[u16; 32], from: usize) -> usize
+pub fn stop_of(task: Task, col: &[i32], columns: &[u16; Sheet::FACTORS], from: usize) -> usize
     requires { ⌜ Accepted (now col) × Starts (now col) (now columns) × (from ≤ count (now col) 1) ⌝ }
     ensures { λ r. ⌜ StopsAt (now (col .entry)) task from r ⌝ }
 {
@@ -102,14 +104,14 @@ pub fn store(
     run: Run,
     col: &[i32],
     row: &[i32],
-    columns: &[u16; 32],
-    rows: &[u16; 32],
+    columns: &[u16; Sheet::FACTORS],
+    rows: &[u16; Sheet::FACTORS],
     t: usize,
-    b: &[i32; 256],
+    b: &[i32; Block::CELLS],
     y: &mut [i32],
 )
     requires { ⌜ Matched (now col) (now row) × Starts (now col) (now columns) × Starts (now row) (now rows)
-        × StopsAt (now col) (run .task) 0 t × (length (now b) ≡ 256) × (length (now y) ≡ sizeOf (now col) (now row)) ⌝ }
+        × StopsAt (now col) (run .task) 0 t × (length (now b) ≡ mostCells) × (length (now y) ≡ sizeOf (now col) (now row)) ⌝ }
     ensures { λ _. ⌜ Stored run (now (col .entry)) (now (row .entry)) t (now (b .entry)) (now (y .entry)) (now (y .exit)) ⌝ }
 {
     let many = count_at(col, 1);

@@ -2,7 +2,7 @@
 ghost use mathlib.Core.Path.{_≡_};
 ghost use Prim.Native.Nat.{_≤_};
 ghost use lib.ListN.{length};
-ghost use Rattle.rules.specs.Numbers.{count};
+ghost use Rattle.rules.specs.Numbers.{mostCells, count};
 ghost use Rattle.sheetread.specs.Starts.{Starts};
 ghost use Rattle.factor.specs.SumBounds.{Bounded};
 ghost use Rattle.factor.specs.Tasks.{limitOf};
@@ -12,6 +12,8 @@ use crate::stages::run_stage;
 use factor::run::Outcome;
 use factor::run::Run;
 use factor::run::nth_start;
+use rules::Block;
+use rules::Sheet;
 use sheetread::factors::count_at;
 
 // The stages from turn from up to turn to, first to last, or, for an inverse run, last to first: the block after them, or the
@@ -20,16 +22,16 @@ pub fn run_stages(
     run: Run,
     col: &[i32],
     row: &[i32],
-    columns: &[u16; 32],
-    rows: &[u16; 32],
+    columns: &[u16; Sheet::FACTORS],
+    rows: &[u16; Sheet::FACTORS],
     from: usize,
     to: usize,
-    x: &mut [i32; 256],
+    x: &mut [i32; Block::CELLS],
 ) -> Outcome
     requires { ⌜ Matched (now col) (now row) × Starts (now col) (now columns) × Starts (now row) (now rows)
-        × (from ≤ to) × (to ≤ count (now col) 1) × Bounded (limitOf (run .task)) (now x) × (length (now x) ≡ 256) ⌝ }
+        × (from ≤ to) × (to ≤ count (now col) 1) × Bounded (limitOf (run .task)) (now x) × (length (now x) ≡ mostCells) ⌝ }
     ensures { λ r. ⌜ Progress run (now (col .entry)) (now (row .entry)) from to (now (x .entry)) r (now (x .exit))
-        × (length (now (x .exit)) ≡ 256) ⌝ }
+        × (length (now (x .exit)) ≡ mostCells) ⌝ }
 {
     let task = run.task;
     let n1 = count_at(col, 0);

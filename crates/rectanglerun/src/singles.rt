@@ -8,6 +8,7 @@ ghost use Rattle.rectanglerun.specs.RowsInTurn.{Weighable, Weighed, Turn
 use factor::Layout;
 use factor::run::Outcome;
 use factor::run::Task;
+use rules::Block;
 use rules::Rule;
 use singlerows::apply_beside;
 use singlerows::apply_crossing;
@@ -38,9 +39,9 @@ fn apply_rows_beside(
     row: &[i32],
     fb: Layout,
     n: usize,
-    g: &[i32; 16],
-    w: &[i32; 16],
-    x: &mut [i32; 256],
+    g: &[i32; Block::LINE],
+    w: &[i32; Block::LINE],
+    x: &mut [i32; Block::CELLS],
 ) -> Outcome
     requires { ⌜ Weighable Task.Forward (now col) fa (now row) fb (now x) × (fb .kind ≡ Single)
         × Laid (now row) fb n (now g) (now w) ⌝ }
@@ -65,9 +66,9 @@ fn apply_all_beside(
     fa: Layout,
     row: &[i32],
     fb: Layout,
-    g: &[i32; 16],
-    w: &[i32; 16],
-    x: &mut [i32; 256],
+    g: &[i32; Block::LINE],
+    w: &[i32; Block::LINE],
+    x: &mut [i32; Block::CELLS],
 ) -> Outcome
     requires { ⌜ Weighable Task.Forward (now col) fa (now row) fb (now x) × (fb .kind ≡ Single)
         × Laid (now row) fb (fb .order) (now g) (now w) ⌝ }
@@ -94,7 +95,7 @@ pub fn apply_single_rows(
     fa: Layout,
     row: &[i32],
     fb: Layout,
-    x: &mut [i32; 256],
+    x: &mut [i32; Block::CELLS],
 ) -> Outcome
     requires { ⌜ Weighable Task.Forward (now col) fa (now row) fb (now x) × (fb .kind ≡ Single) ⌝ }
     ensures { λ r. ⌜ Weighed Task.Forward rule (now (col .entry)) fa (now (row .entry)) fb (now (x .entry))
@@ -118,9 +119,9 @@ fn undo_rows_beside(
     row: &[i32],
     fb: Layout,
     n: usize,
-    g: &[i32; 16],
-    w: &[i32; 16],
-    x: &mut [i32; 256],
+    g: &[i32; Block::LINE],
+    w: &[i32; Block::LINE],
+    x: &mut [i32; Block::CELLS],
 ) -> Outcome
     requires { ⌜ Weighable Task.Inverse (now col) fa (now row) fb (now x) × (fb .kind ≡ Single)
         × Laid (now row) fb n (now g) (now w) ⌝ }
@@ -145,9 +146,9 @@ fn undo_all_beside(
     fa: Layout,
     row: &[i32],
     fb: Layout,
-    g: &[i32; 16],
-    w: &[i32; 16],
-    x: &mut [i32; 256],
+    g: &[i32; Block::LINE],
+    w: &[i32; Block::LINE],
+    x: &mut [i32; Block::CELLS],
 ) -> Outcome
     requires { ⌜ Weighable Task.Inverse (now col) fa (now row) fb (now x) × (fb .kind ≡ Single)
         × Laid (now row) fb (fb .order) (now g) (now w) ⌝ }
@@ -174,7 +175,7 @@ pub fn undo_single_rows(
     fa: Layout,
     row: &[i32],
     fb: Layout,
-    x: &mut [i32; 256],
+    x: &mut [i32; Block::CELLS],
 ) -> Outcome
     requires { ⌜ Weighable Task.Inverse (now col) fa (now row) fb (now x) × (fb .kind ≡ Single) ⌝ }
     ensures { λ r. ⌜ Weighed Task.Inverse rule (now (col .entry)) fa (now (row .entry)) fb (now (x .entry))

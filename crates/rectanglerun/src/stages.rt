@@ -2,6 +2,7 @@
 ghost use mathlib.Core.Path.{_≡_};
 ghost use Prim.Native.Nat.{_*_};
 ghost use lib.ListN.{length};
+ghost use Rattle.rules.specs.Numbers.{mostCells};
 ghost use Rattle.rules.specs.Factors.{factorAt};
 ghost use Rattle.rules.specs.Shapes.{jointStage};
 ghost use Rattle.factor.specs.SumBounds.{Bounded};
@@ -20,6 +21,7 @@ use factor::run::Outcome;
 use factor::run::Run;
 use factor::run::Task;
 use pairmoves::move_pair;
+use rules::Block;
 use rules::Kind;
 
 // A pair of permutations moves the numbers, and can leave no bound. A pair of factors with weights makes new ones, row by row; it
@@ -34,12 +36,12 @@ pub fn run_stage(
     n2: usize,
     i: usize,
     j: usize,
-    x: &mut [i32; 256],
+    x: &mut [i32; Block::CELLS],
 ) -> Outcome
-    requires { ⌜ Paired (now col) (now row) n1 n2 i j × Bounded (limitOf (run .task)) (now x) × (length (now x) ≡ 256) ⌝ }
+    requires { ⌜ Paired (now col) (now row) n1 n2 i j × Bounded (limitOf (run .task)) (now x) × (length (now x) ≡ mostCells) ⌝ }
     ensures { λ r. ⌜ Step (limitOf (run .task)) (n1 * n2)
         (takenBy run (n1 * n2) (jointStage n1 n2 (factorAt (now (col .entry)) n1 i) (factorAt (now (row .entry)) n2 j))
-        (now (x .entry))) (r .ok) (now (x .exit)) × (length (now (x .exit)) ≡ 256) ⌝ }
+        (now (x .entry))) (r .ok) (now (x .exit)) × (length (now (x .exit)) ≡ mostCells) ⌝ }
 {
     let task = run.task;
     let rule = run.rule;

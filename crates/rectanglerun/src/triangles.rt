@@ -5,6 +5,7 @@ ghost use Rattle.rectanglerun.specs.RowsInTurn.{Weighable, Weighed};
 use factor::Layout;
 use factor::run::Outcome;
 use factor::run::Task;
+use rules::Block;
 use rules::Rule;
 use trianglerows::applied::apply_lower_row;
 use trianglerows::applied::apply_upper_row;
@@ -18,7 +19,7 @@ pub fn apply_lower_rows(
     fa: Layout,
     row: &[i32],
     fb: Layout,
-    x: &mut [i32; 256],
+    x: &mut [i32; Block::CELLS],
 ) -> Outcome
     requires { ⌜ Weighable Task.Forward (now col) fa (now row) fb (now x) × (fb .kind ≡ Lower) ⌝ }
     ensures { λ r. ⌜ Weighed Task.Forward rule (now (col .entry)) fa (now (row .entry)) fb (now (x .entry))
@@ -41,7 +42,7 @@ pub fn apply_upper_rows(
     fa: Layout,
     row: &[i32],
     fb: Layout,
-    x: &mut [i32; 256],
+    x: &mut [i32; Block::CELLS],
 ) -> Outcome
     requires { ⌜ Weighable Task.Forward (now col) fa (now row) fb (now x) × (fb .kind ≡ Upper) ⌝ }
     ensures { λ r. ⌜ Weighed Task.Forward rule (now (col .entry)) fa (now (row .entry)) fb (now (x .entry))
@@ -64,7 +65,7 @@ pub fn undo_lower_rows(
     fa: Layout,
     row: &[i32],
     fb: Layout,
-    x: &mut [i32; 256],
+    x: &mut [i32; Block::CELLS],
 ) -> Outcome
     requires { ⌜ Weighable Task.Inverse (now col) fa (now row) fb (now x) × (fb .kind ≡ Lower) ⌝ }
     ensures { λ r. ⌜ Weighed Task.Inverse rule (now (col .entry)) fa (now (row .entry)) fb (now (x .entry))
@@ -87,7 +88,7 @@ pub fn undo_upper_rows(
     fa: Layout,
     row: &[i32],
     fb: Layout,
-    x: &mut [i32; 256],
+    x: &mut [i32; Block::CELLS],
 ) -> Outcome
     requires { ⌜ Weighable Task.Inverse (now col) fa (now row) fb (now x) × (fb .kind ≡ Upper) ⌝ }
     ensures { λ r. ⌜ Weighed Task.Inverse rule (now (col .entry)) fa (now (row .entry)) fb (now (x .entry))

@@ -12,6 +12,10 @@ mostOrder = 16
 abbrev pub mostCount : ℕ
 mostCount = 32
 
+-- so a block, like the matrix of a factor, has at most 256 numbers
+abbrev pub mostCells : ℕ
+mostCells = 256
+
 abbrev pub mostKind : ℕ
 mostKind = 4
 

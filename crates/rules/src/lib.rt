@@ -3,11 +3,9 @@
 ghost use mathlib.Core.Path.{_≡_};
 ghost use Rattle.rules.specs.Answers.{accepted, counted, refused};
 
-// A sheet of numbers. The limits of "Numbers and their bounds" that bound a sheet's numbers are named here.
-pub struct Sheet {
-    pub order: usize,
-    pub count: usize,
-}
+// A sheet: the numbers of one recipe. The limits of "Numbers and their bounds" that bound a sheet's numbers are named here. A call
+// is lent a sheet as a slice, so the type has no fields.
+pub struct Sheet {}
 
 impl Sheet {
     // An order is 1 to 16, a count of factors 1 to 32, a kind 1 to 4.
@@ -17,17 +15,23 @@ impl Sheet {
 
     pub const KIND: i32 = 4;
 
-    // An entry lies between -16384 and 16384.
+    // An entry e lies between -16384 and 16384, and means e/4096.
     pub const ENTRY: i32 = 16384;
+
+    pub const UNIT: i32 = 4096;
+
+    // A magnitude that is a multiple of this is a whole number.
+    pub const WHOLE: usize = Self::UNIT as usize;
 
     // The longest sheet has 4386 numbers.
     pub const LONGEST: usize = 4386;
+
+    // Room for one number of each factor.
+    pub const FACTORS: usize = Self::COUNT as usize;
 }
 
-// A block of numbers, and the limits that bound them.
-pub struct Block {
-    pub cells: [i32; 256],
-}
+// A block: the numbers of one run. A call is lent a block as a slice, too.
+pub struct Block {}
 
 impl Block {
     // A sample or coefficient lies between -16777215 and 16777215.
@@ -35,6 +39,34 @@ impl Block {
 
     // An allowance, counted in 1/4096, is at most this.
     pub const ALLOWANCE: i32 = 67108863;
+
+    // A line has room for as many numbers as the largest order, a rectangle for that many lines.
+    pub const LINE: usize = Sheet::ORDER as usize;
+
+    pub const CELLS: usize = Self::LINE * Self::LINE;
+}
+
+// The scales at which a sum is rounded: entries of a line count in 1/4096, products of two entries in 1/16777216. A shift to the
+// right by so many bits divides by the scale, downward; with half a scale added before it to the nearest, with a scale less 1
+// upward.
+pub struct Scale {}
+
+impl Scale {
+    pub const LINE: i64 = Sheet::UNIT as i64;
+
+    pub const LINE_BITS: i64 = 12;
+
+    pub const LINE_HALF: i64 = Self::LINE / 2;
+
+    pub const LINE_UP: i64 = Self::LINE - 1;
+
+    pub const JOINT: i64 = Self::LINE * Self::LINE;
+
+    pub const JOINT_BITS: i64 = 24;
+
+    pub const JOINT_HALF: i64 = Self::JOINT / 2;
+
+    pub const JOINT_UP: i64 = Self::JOINT - 1;
 }
 
 // The four kinds of factor.
@@ -48,6 +80,11 @@ pub enum Kind {
 // The rule by which a sum is rounded. Document 01 has one: to the nearest whole number, halves upward.
 pub enum Rule {
     Nearest,
+}
+
+impl Rule {
+    // What one rounding adds to an allowance, counted in 1/4096.
+    pub const SHARE: i64 = 2048;
 }
 
 // What a number of a sheet stands for: with a row or a place the order, and with a place where its permutation starts.

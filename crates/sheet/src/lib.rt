@@ -2,6 +2,7 @@
 ghost use mathlib.Core.Path.{_≡_};
 ghost use Rattle.rules.specs.Answers.{checked, pairChecked, IsRest};
 use rules::Answer;
+use rules::Sheet;
 use sheetcheck::checks::check_pair_starts;
 use sheetcheck::checks::check_starts;
 use sheetcheck::checks::read_whole;
@@ -10,7 +11,7 @@ use sheetcheck::checks::read_whole;
 pub fn check(sheet: &[i32]) -> Answer
     ensures { λ r. ⌜ r ≡ checked (now (sheet .entry)) ⌝ }
 {
-    let mut starts = [0u16; 32];
+    let mut starts = [0u16; Sheet::FACTORS];
     check_starts(sheet, &mut starts)
 }
 
@@ -18,8 +19,8 @@ pub fn check(sheet: &[i32]) -> Answer
 pub fn check_pair(col: &[i32], row: &[i32]) -> Answer
     ensures { λ r. ⌜ r ≡ pairChecked (now (col .entry)) (now (row .entry)) ⌝ }
 {
-    let mut columns = [0u16; 32];
-    let mut rows = [0u16; 32];
+    let mut columns = [0u16; Sheet::FACTORS];
+    let mut rows = [0u16; Sheet::FACTORS];
     check_pair_starts(col, row, &mut columns, &mut rows)
 }
 

@@ -1,6 +1,7 @@
 // The checks of the calls: what is wrong with a sheet or a pair, and if nothing is, where the factors start.
 ghost use mathlib.Core.Path.{_≡_};
 ghost use lib.ListN.{length};
+ghost use Rattle.rules.specs.Numbers.{mostCount};
 ghost use Rattle.rules.specs.Sheets.{reading};
 ghost use Rattle.rules.specs.Answers.{readAnswer, checked, pairChecked};
 ghost use Rattle.laws.specs.Accepted.{Accepted};
@@ -9,6 +10,7 @@ use crate::matches::check_match;
 use crate::quick::is_faultless;
 use rules::Answer;
 use rules::Mark;
+use rules::Sheet;
 use sheetread::readers::read_sheet;
 
 // The answer to what a reading found, at side 0 or 1.
@@ -22,8 +24,8 @@ fn answer_of(m: Mark, side: u32) -> Answer
 }
 
 // What a reading finds. Where the quick test says no, the readers tell the fault and its place.
-fn read_starts(sheet: &[i32], starts: &mut [u16; 32]) -> Mark
-    requires { ⌜ length (now starts) ≡ 32 ⌝ }
+fn read_starts(sheet: &[i32], starts: &mut [u16; Sheet::FACTORS]) -> Mark
+    requires { ⌜ length (now starts) ≡ mostCount ⌝ }
     ensures { λ r. ⌜ (r ≡ reading (now (sheet .entry)))
         × (r .number ≡ 0 → Accepted (now (sheet .entry)) × Starts (now (sheet .entry)) (now (starts .exit))) ⌝ }
 {
@@ -41,13 +43,13 @@ fn read_starts(sheet: &[i32], starts: &mut [u16; 32]) -> Mark
 pub fn read_whole(sheet: &[i32]) -> Mark
     ensures { λ r. ⌜ r ≡ reading (now (sheet .entry)) ⌝ }
 {
-    let mut starts = [0u16; 32];
+    let mut starts = [0u16; Sheet::FACTORS];
     read_starts(sheet, &mut starts)
 }
 
 // Checks a sheet: 1 to 9. The law `accepted-read` says what a sheet has for which this answers 0.
-pub fn check_starts(sheet: &[i32], starts: &mut [u16; 32]) -> Answer
-    requires { ⌜ length (now starts) ≡ 32 ⌝ }
+pub fn check_starts(sheet: &[i32], starts: &mut [u16; Sheet::FACTORS]) -> Answer
+    requires { ⌜ length (now starts) ≡ mostCount ⌝ }
     ensures { λ r. ⌜ (r ≡ checked (now (sheet .entry)))
         × (r .number ≡ 0 → Starts (now (sheet .entry)) (now (starts .exit))) ⌝ }
 {
@@ -58,10 +60,10 @@ pub fn check_starts(sheet: &[i32], starts: &mut [u16; 32]) -> Answer
 pub fn check_pair_starts(
     col: &[i32],
     row: &[i32],
-    columns: &mut [u16; 32],
-    rows: &mut [u16; 32],
+    columns: &mut [u16; Sheet::FACTORS],
+    rows: &mut [u16; Sheet::FACTORS],
 ) -> Answer
-    requires { ⌜ (length (now columns) ≡ 32) × (length (now rows) ≡ 32) ⌝ }
+    requires { ⌜ (length (now columns) ≡ mostCount) × (length (now rows) ≡ mostCount) ⌝ }
     ensures { λ r. ⌜ (r ≡ pairChecked (now (col .entry)) (now (row .entry)))
         × (r .number ≡ 0 → Starts (now (col .entry)) (now (columns .exit)) × Starts (now (row .entry)) (now (rows .exit))) ⌝ }
 {

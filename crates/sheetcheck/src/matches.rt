@@ -6,11 +6,12 @@ ghost use Rattle.rules.specs.Answers.{start, first, differ, matching};
 ghost use Rattle.laws.specs.Accepted.{Accepted};
 ghost use Rattle.sheetread.specs.Starts.{Starts};
 use rules::Answer;
+use rules::Sheet;
 use sheetread::factors::count_at;
 use sheetread::factors::smaller;
 
 // The kind number of factor f.
-fn kind_number(sheet: &[i32], starts: &[u16; 32], f: usize) -> usize
+fn kind_number(sheet: &[i32], starts: &[u16; Sheet::FACTORS], f: usize) -> usize
     requires { ⌜ Accepted (now sheet) × Starts (now sheet) (now starts) × (f < count (now sheet) 1) ⌝ }
     ensures { λ r. ⌜ r ≡ count (now (sheet .entry)) (start (now (sheet .entry)) f) ⌝ }
 {
@@ -18,7 +19,13 @@ fn kind_number(sheet: &[i32], starts: &[u16; 32], f: usize) -> usize
 }
 
 // The first of the first m positions whose kinds differ, else m.
-fn first_clash(col: &[i32], row: &[i32], columns: &[u16; 32], rows: &[u16; 32], m: usize) -> usize
+fn first_clash(
+    col: &[i32],
+    row: &[i32],
+    columns: &[u16; Sheet::FACTORS],
+    rows: &[u16; Sheet::FACTORS],
+    m: usize,
+) -> usize
     requires { ⌜ Accepted (now col) × Accepted (now row) × Starts (now col) (now columns) × Starts (now row) (now rows)
         × (m ≤ count (now col) 1) × (m ≤ count (now row) 1) ⌝ }
     ensures { λ r. ⌜ r ≡ first (differ (now (col .entry)) (now (row .entry))) m ⌝ }
@@ -32,7 +39,12 @@ fn first_clash(col: &[i32], row: &[i32], columns: &[u16; 32], rows: &[u16; 32], 
 }
 
 // The sheets match if the first clash is the count of both; else that is the place of 12.
-pub fn check_match(col: &[i32], row: &[i32], columns: &[u16; 32], rows: &[u16; 32]) -> Answer
+pub fn check_match(
+    col: &[i32],
+    row: &[i32],
+    columns: &[u16; Sheet::FACTORS],
+    rows: &[u16; Sheet::FACTORS],
+) -> Answer
     requires { ⌜ Accepted (now col) × Accepted (now row) × Starts (now col) (now columns) × Starts (now row) (now rows) ⌝ }
     ensures { λ r. ⌜ r ≡ matching (now (col .entry)) (now (row .entry)) ⌝ }
 {

@@ -6,13 +6,15 @@ ghost use mathlib.Core.Logic.{_≢_};
 ghost use mathlib.Core.Path.{_≡_};
 ghost use Prim.Native.Nat.{_+_, _≤_};
 ghost use lib.ListN.{length};
-ghost use Rattle.rules.specs.Numbers.{mostOrder, count};
+ghost use Rattle.rules.specs.Numbers.{mostOrder, mostCount, mostCells, count};
 ghost use Rattle.rules.specs.Sheets.{_then_, times, one, weights, body, factor};
 ghost use Rattle.laws.specs.Accepted.{Headed, Accepted};
 ghost use Rattle.sheetread.specs.Starts.{Starts, FactorsMet};
 ghost use Rattle.sheetcheck.specs.Quick.{Passes, EndsAt};
+use rules::Block;
 use rules::Item;
 use rules::Kind;
+use rules::Sheet;
 use sheetread::factors::count_at;
 use sheetread::factors::kind_at;
 use sheetread::factors::triangle_of;
@@ -46,7 +48,7 @@ fn end_of_one(sheet: &[i32], what: Item, p: usize) -> usize
 // numbers at a time. It is kept small, so that it is compiled into its callers, where the meaning is known: with the meaning
 // asked for each number, the check of order 16 took six times as long.
 fn are_fine(sheet: &[i32], what: Item, m: usize, p: usize) -> bool
-    requires { ⌜ (p + m ≤ length (now sheet)) × (m ≤ 256) ⌝ }
+    requires { ⌜ (p + m ≤ length (now sheet)) × (m ≤ mostCells) ⌝ }
     ensures { λ r. ⌜ (r ≡ true
         → Passes (now (sheet .entry)) (times m (one (now (sheet .entry)) what) p) (p + m)) ⌝ }
 {
@@ -78,7 +80,7 @@ fn end_of_places(sheet: &[i32], n: usize, p: usize) -> usize
     if !has_room(sheet, n, p) {
         return 0;
     }
-    let mut used = [false; 16];
+    let mut used = [false; Block::LINE];
     for k in 0..n {
         if fault_of(sheet, Item::Row(n), p + k) != 0 {
             return 0;
@@ -94,7 +96,7 @@ fn end_of_places(sheet: &[i32], n: usize, p: usize) -> usize
 
 // n signs, then m entries.
 fn end_of_weights(sheet: &[i32], n: usize, m: usize, p: usize) -> usize
-    requires { ⌜ (n ≤ 256) × (m ≤ 256) ⌝ }
+    requires { ⌜ (n ≤ mostCells) × (m ≤ mostCells) ⌝ }
     ensures { λ r. ⌜ EndsAt (now (sheet .entry)) (weights (now (sheet .entry)) n m p) r ⌝ }
 {
     if !has_room(sheet, n, p) {
@@ -115,7 +117,7 @@ fn end_of_weights(sheet: &[i32], n: usize, m: usize, p: usize) -> usize
 
 // Kind 4: its row, n signs, then m entries.
 fn end_of_single(sheet: &[i32], n: usize, m: usize, p: usize) -> usize
-    requires { ⌜ (n ≤ 256) × (m ≤ 256) ⌝ }
+    requires { ⌜ (n ≤ mostCells) × (m ≤ mostCells) ⌝ }
     ensures { λ r. ⌜ EndsAt (now (sheet .entry))
         (one (now (sheet .entry)) (Item.Row n) p then weights (now (sheet .entry)) n m) r ⌝ }
 {
@@ -168,9 +170,9 @@ fn end_of_factor(sheet: &[i32], n: usize, i: usize) -> usize
 }
 
 // All factors. Where each starts is written down as it is met.
-fn end_of_factors(sheet: &[i32], starts: &mut [u16; 32]) -> usize
-    requires { ⌜ Headed (now sheet) × (length (now starts) ≡ 32) ⌝ }
-    ensures { λ r. ⌜ (length (now (starts .exit)) ≡ 32)
+fn end_of_factors(sheet: &[i32], starts: &mut [u16; Sheet::FACTORS]) -> usize
+    requires { ⌜ Headed (now sheet) × (length (now starts) ≡ mostCount) ⌝ }
+    ensures { λ r. ⌜ (length (now (starts .exit)) ≡ mostCount)
         × (r ≢ 0 → FactorsMet (now (sheet .entry)) (count (now (sheet .entry)) 1) r (now (starts .exit))) ⌝ }
 {
     let n = count_at(sheet, 0);
@@ -198,9 +200,9 @@ fn end_of_head(sheet: &[i32]) -> usize
 }
 
 // Whether the sheet has no fault. If so, the table has the starts of its factors.
-pub fn is_faultless(sheet: &[i32], starts: &mut [u16; 32]) -> bool
-    requires { ⌜ length (now starts) ≡ 32 ⌝ }
-    ensures { λ r. ⌜ (length (now (starts .exit)) ≡ 32)
+pub fn is_faultless(sheet: &[i32], starts: &mut [u16; Sheet::FACTORS]) -> bool
+    requires { ⌜ length (now starts) ≡ mostCount ⌝ }
+    ensures { λ r. ⌜ (length (now (starts .exit)) ≡ mostCount)
         × (r ≡ true → Accepted (now (sheet .entry)) × Starts (now (sheet .entry)) (now (starts .exit))) ⌝ }
 {
     if end_of_head(sheet) == 0 {

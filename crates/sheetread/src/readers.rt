@@ -2,7 +2,7 @@
 ghost use mathlib.Core.Path.{_≡_};
 ghost use Prim.Native.Nat.{_≤_, _-_};
 ghost use lib.ListN.{length};
-ghost use Rattle.rules.specs.Numbers.{mostOrder, count};
+ghost use Rattle.rules.specs.Numbers.{mostOrder, mostCount, count};
 ghost use Rattle.rules.specs.Sheets.{_then_, times, one, weights, body, factor, closed, head, reading};
 ghost use Rattle.laws.specs.Accepted.{Headed};
 ghost use Rattle.sheetread.specs.Starts.{Starts};
@@ -13,6 +13,7 @@ use crate::faults::fault_of;
 use rules::Item;
 use rules::Kind;
 use rules::Mark;
+use rules::Sheet;
 
 // 1, at the sheet's length, if no number stands at i.
 fn read_one(sheet: &[i32], what: Item, i: usize) -> Mark
@@ -105,8 +106,8 @@ fn read_factor(sheet: &[i32], n: usize, i: usize) -> Mark
 }
 
 // All factors of a sheet with a head. Where each starts is written down as it is met.
-fn read_factors(sheet: &[i32], starts: &mut [u16; 32]) -> Mark
-    requires { ⌜ Headed (now sheet) × (length (now starts) ≡ 32) ⌝ }
+fn read_factors(sheet: &[i32], starts: &mut [u16; Sheet::FACTORS]) -> Mark
+    requires { ⌜ Headed (now sheet) × (length (now starts) ≡ mostCount) ⌝ }
     ensures { λ r. ⌜ (r ≡ times (count (now (sheet .entry)) 1) (factor (now (sheet .entry)) (count (now (sheet .entry)) 0)) 2)
         × (r .number ≡ 0 → Starts (now (sheet .entry)) (now (starts .exit))) ⌝ }
 {
@@ -155,8 +156,8 @@ fn read_head(sheet: &[i32]) -> Mark
 }
 
 // A whole sheet. If it has no fault, the table has the starts of its factors.
-pub fn read_sheet(sheet: &[i32], starts: &mut [u16; 32]) -> Mark
-    requires { ⌜ length (now starts) ≡ 32 ⌝ }
+pub fn read_sheet(sheet: &[i32], starts: &mut [u16; Sheet::FACTORS]) -> Mark
+    requires { ⌜ length (now starts) ≡ mostCount ⌝ }
     ensures { λ r. ⌜ (r ≡ reading (now (sheet .entry)))
         × (r .number ≡ 0 → Starts (now (sheet .entry)) (now (starts .exit))) ⌝ }
 {

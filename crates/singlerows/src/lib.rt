@@ -10,7 +10,7 @@ ghost use mir.Val.{SFits};
 ghost use Rattle.whole.specs.Diff.{Within};
 ghost use Rattle.whole.specs.Laws.{Sign};
 ghost use Rattle.rules.specs.declared.Kind.the-variants.{Single};
-ghost use Rattle.rules.specs.Numbers.{unit, bound, at};
+ghost use Rattle.rules.specs.Numbers.{mostOrder, unit, mostCells, bound, at};
 ghost use Rattle.rules.specs.Stages.{R};
 ghost use Rattle.factor.specs.UndoingOrder.{nthUndone};
 ghost use Rattle.factor.specs.SumBounds.{Bounded};
@@ -61,11 +61,11 @@ fn entry_in(row: &[i32], f: Layout, j: usize) -> i32
 
 // That row laid out by columns. With it a row of the block has one sum over all its columns, in place of two whose lengths are
 // known late, and the number in the row's own column is no part of it.
-pub fn lay_entries(row: &[i32], f: Layout) -> [i32; 16]
+pub fn lay_entries(row: &[i32], f: Layout) -> [i32; Block::LINE]
     requires { ⌜ InSheet (now row) f × (f .kind ≡ Single) × (f .row < f .order) ⌝ }
     ensures { λ r. ⌜ r ≡ entriesLaid (now (row .entry)) f ⌝ }
 {
-    let mut w = [0i32; 16];
+    let mut w = [0i32; Block::LINE];
     let n = f.order;
     for j in 0..n {
         w[j] = entry_in(row, f, j);
@@ -74,11 +74,11 @@ pub fn lay_entries(row: &[i32], f: Layout) -> [i32; 16]
 }
 
 // The signs of the columns, laid out: from an array of its own the compiler reads several at a time.
-pub fn lay_signs(row: &[i32], f: Layout) -> [i32; 16]
+pub fn lay_signs(row: &[i32], f: Layout) -> [i32; Block::LINE]
     requires { ⌜ InSheet (now row) f ⌝ }
     ensures { λ r. ⌜ r ≡ signsLaid (now (row .entry)) f ⌝ }
 {
-    let mut g = [0i32; 16];
+    let mut g = [0i32; Block::LINE];
     let n = f.order;
     for j in 0..n {
         g[j] = sign_at(row, f, j);
@@ -87,7 +87,7 @@ pub fn lay_signs(row: &[i32], f: Layout) -> [i32; 16]
 }
 
 // The first n entries of w, each times its number of the block's row that starts at place k.
-fn narrow_sum(w: &[i32; 16], x: &[i32; 256], k: usize, n: usize) -> i64
+fn narrow_sum(w: &[i32; Block::LINE], x: &[i32; Block::CELLS], k: usize, n: usize) -> i64
     requires { ⌜ Narrow (now w) (now x) k n ⌝ }
     ensures { λ s. ⌜ s ≡ narrowSum (now (w .entry)) (now (x .entry)) k n ⌝ }
 {
@@ -99,7 +99,14 @@ fn narrow_sum(w: &[i32; 16], x: &[i32; 256], k: usize, n: usize) -> i64
 }
 
 // The same as the element looks at it: times the sign of the block's row, and rounded.
-fn rounded_beside(rule: Rule, w: &[i32; 16], n: usize, d: i32, k: usize, x: &[i32; 256]) -> i64
+fn rounded_beside(
+    rule: Rule,
+    w: &[i32; Block::LINE],
+    n: usize,
+    d: i32,
+    k: usize,
+    x: &[i32; Block::CELLS],
+) -> i64
     requires { ⌜ Narrow (now w) (now x) k n × Sign d ⌝ }
     ensures { λ r. ⌜ r ≡ R rule unit (d *ℤ narrowSum (now (w .entry)) (now (x .entry)) k n) ⌝ }
 {
@@ -107,8 +114,8 @@ fn rounded_beside(rule: Rule, w: &[i32; 16], n: usize, d: i32, k: usize, x: &[i3
 }
 
 // The sign of the element in column j of a row of the sign d.
-fn sign_in(d: i32, g: &[i32; 16], j: usize) -> i32
-    requires { ⌜ (j < 16) × Sign d × Sign (at (now g) j) ⌝ }
+fn sign_in(d: i32, g: &[i32; Block::LINE], j: usize) -> i32
+    requires { ⌜ (j < mostOrder) × Sign d × Sign (at (now g) j) ⌝ }
     ensures { λ r. ⌜ r ≡ d *ℤ at (now (g .entry)) j ⌝ }
 {
     both_signs(d, g[j])
@@ -117,13 +124,13 @@ fn sign_in(d: i32, g: &[i32; 16], j: usize) -> i32
 // What the element in column q of that row becomes, q the row of the row sheet's factor.
 fn applied_beside(
     rule: Rule,
-    g: &[i32; 16],
-    w: &[i32; 16],
+    g: &[i32; Block::LINE],
+    w: &[i32; Block::LINE],
     n: usize,
     q: usize,
     d: i32,
     k: usize,
-    x: &[i32; 256],
+    x: &[i32; Block::CELLS],
 ) -> i64
     requires { ⌜ SignsGiven (now g) n d k (now x) × Narrow (now w) (now x) k n × (q < n) ⌝ }
     ensures { λ r. ⌜ r ≡ appliedBeside rule d (at (now (g .entry)) q) (narrowSum (now (w .entry)) (now (x .entry)) k n)
@@ -139,14 +146,14 @@ fn applied_beside(
 // What it was, where it is y now and the others of the row are recovered.
 fn undone_beside(
     rule: Rule,
-    g: &[i32; 16],
-    w: &[i32; 16],
+    g: &[i32; Block::LINE],
+    w: &[i32; Block::LINE],
     n: usize,
     q: usize,
     d: i32,
     k: usize,
     y: i32,
-    x: &[i32; 256],
+    x: &[i32; Block::CELLS],
 ) -> i64
     requires { ⌜ SignsGiven (now g) n d k (now x) × Narrow (now w) (now x) k n × (q < n) × Within bound y ⌝ }
     ensures { λ r. ⌜ r ≡ undoneBeside rule d (at (now (g .entry)) q) (narrowSum (now (w .entry)) (now (x .entry)) k n) y ⌝ }
@@ -167,8 +174,8 @@ fn turned_number(s: i32, x: i32) -> i32
 }
 
 // The n numbers of the block from place k on, each times the sign d of its row and the sign of its column.
-fn turn_row(g: &[i32; 16], n: usize, d: i32, k: usize, x: &mut [i32; 256])
-    requires { ⌜ SignsGiven (now g) n d k (now x) × (length (now x) ≡ 256) ⌝ }
+fn turn_row(g: &[i32; Block::LINE], n: usize, d: i32, k: usize, x: &mut [i32; Block::CELLS])
+    requires { ⌜ SignsGiven (now g) n d k (now x) × (length (now x) ≡ mostCells) ⌝ }
     ensures { λ _. ⌜ Turned (at (now (g .entry))) d k n (now (x .entry)) (now (x .exit)) ⌝ }
 {
     for j in 0..n {
@@ -185,10 +192,10 @@ pub fn apply_beside(
     row: &[i32],
     fb: Layout,
     n: usize,
-    g: &[i32; 16],
-    w: &[i32; 16],
+    g: &[i32; Block::LINE],
+    w: &[i32; Block::LINE],
     i: usize,
-    x: &mut [i32; 256],
+    x: &mut [i32; Block::CELLS],
 ) -> Outcome
     requires { ⌜ RowAsks (now col) fa (now row) fb i (now x) × (fb .kind ≡ Single) × (i ≢ fa .row)
         × Laid (now row) fb n (now g) (now w) ⌝ }
@@ -218,10 +225,10 @@ pub fn undo_beside(
     row: &[i32],
     fb: Layout,
     n: usize,
-    g: &[i32; 16],
-    w: &[i32; 16],
+    g: &[i32; Block::LINE],
+    w: &[i32; Block::LINE],
     i: usize,
-    x: &mut [i32; 256],
+    x: &mut [i32; Block::CELLS],
 ) -> Outcome
     requires { ⌜ RowAsks (now col) fa (now row) fb i (now x) × (fb .kind ≡ Single) × (i ≢ fa .row)
         × Laid (now row) fb n (now g) (now w) ⌝ }
@@ -246,7 +253,7 @@ pub fn undo_beside(
 }
 
 // The whole sum of the element in column q, v the sums of its row over the columns.
-fn column_total(row: &[i32], f: Layout, v: &[i64; 16]) -> i64
+fn column_total(row: &[i32], f: Layout, v: &[i64; Block::LINE]) -> i64
     requires { ⌜ TotalGiven (now row) f (f .row) (now v) ⌝ }
     ensures { λ s. ⌜ s ≡ totalOf (now (row .entry)) f (f .row) (now (v .entry)) ⌝ }
 {
@@ -262,7 +269,7 @@ fn column_total(row: &[i32], f: Layout, v: &[i64; 16]) -> i64
 }
 
 // That of the element in column j: beside column q, whose total is lent, it is the diagonal's term alone.
-fn crossing_total(row: &[i32], f: Layout, j: usize, total: i64, v: &[i64; 16]) -> i64
+fn crossing_total(row: &[i32], f: Layout, j: usize, total: i64, v: &[i64; Block::LINE]) -> i64
     requires { ⌜ TotalGiven (now row) f j (now v) × OneRow f × (total ≡ totalOf (now row) f (f .row) (now v)) ⌝ }
     ensures { λ s. ⌜ s ≡ totalOf (now (row .entry)) f j (now (v .entry)) ⌝ }
 {
@@ -279,9 +286,9 @@ fn apply_elements(
     row: &[i32],
     f: Layout,
     d: i32,
-    v: &[i64; 16],
+    v: &[i64; Block::LINE],
     k: usize,
-    x: &mut [i32; 256],
+    x: &mut [i32; Block::CELLS],
 ) -> Outcome
     requires { ⌜ RunGiven (now row) f d (now v) k (now x) × (f .row < f .order) × OneRow f ⌝ }
     ensures { λ r. ⌜ RowDone bound (appliedIn rule (now (row .entry)) f d (now (v .entry)) k) (λ u. k + u) (f .order)
@@ -311,7 +318,7 @@ pub fn apply_crossing(
     row: &[i32],
     fb: Layout,
     i: usize,
-    x: &mut [i32; 256],
+    x: &mut [i32; Block::CELLS],
 ) -> Outcome
     requires { ⌜ InSheet (now col) fa × InSheet (now row) fb × (i < fa .order) × Bounded bound (now x)
         × (fb .row < fb .order) × OneRow fb ⌝ }
@@ -319,7 +326,7 @@ pub fn apply_crossing(
         (inRow (fb .order) i) (fb .order) (now (x .entry)) (now (x .exit)) (r .ok) ⌝ }
 {
     let n = fb.order;
-    let mut v = [0i64; 16];
+    let mut v = [0i64; Block::LINE];
     sums_at(col, fa, i, x, n, &mut v);
     apply_elements(rule, row, fb, sign_at(col, fa, i), &v, i * n, x)
 }
@@ -333,16 +340,16 @@ pub fn undo_crossing(
     row: &[i32],
     fb: Layout,
     i: usize,
-    x: &mut [i32; 256],
+    x: &mut [i32; Block::CELLS],
 ) -> Outcome
     requires { ⌜ InSheet (now col) fa × InSheet (now row) fb × (i < fa .order) × (fb .row < fb .order)
-        × Bounded bound (now x) × (length (now x) ≡ 256) ⌝ }
+        × Bounded bound (now x) × (length (now x) ≡ mostCells) ⌝ }
     ensures { λ r. ⌜ RowDone bound (undoneOf rule (now (col .entry)) fa (now (row .entry)) fb)
         (λ u. inRow (fb .order) i (nthUndone (fb .kind) (fb .order) (fb .row) u)) (fb .order)
         (now (x .entry)) (now (x .exit)) (r .ok) ⌝ }
 {
     let n = fb.order;
-    let mut v = [0i64; 16];
+    let mut v = [0i64; Block::LINE];
     rest_sums_at(col, fa, i, x, n, &mut v);
     for u in 0..n {
         let j = nth_undone(fb, u);

@@ -1,11 +1,13 @@
 // One block of a strip, of either shape, over sheets that were checked.
 ghost use mathlib.Core.Path.{_≡_};
 ghost use lib.ListN.{length};
+ghost use Rattle.rules.specs.Numbers.{mostCount};
 ghost use Rattle.rules.specs.Calls.{Gives};
 ghost use Rattle.factor.specs.Tasks.{callOf};
 ghost use Rattle.striprun.specs.Plans.{planOf, StartsOf, TakesBlocks};
 use factor::run::Run;
 use rules::Answer;
+use rules::Sheet;
 use sheetcheck::checks::check_pair_starts;
 use sheetcheck::checks::check_starts;
 use sheetread::factors::count_at;
@@ -21,10 +23,10 @@ pub fn check_sheets(
     shape: Shape,
     col: &[i32],
     row: &[i32],
-    columns: &mut [u16; 32],
-    rows: &mut [u16; 32],
+    columns: &mut [u16; Sheet::FACTORS],
+    rows: &mut [u16; Sheet::FACTORS],
 ) -> Answer
-    requires { ⌜ (length (now columns) ≡ 32) × (length (now rows) ≡ 32) ⌝ }
+    requires { ⌜ (length (now columns) ≡ mostCount) × (length (now rows) ≡ mostCount) ⌝ }
     ensures { λ r. ⌜ (r ≡ planOf shape (now (col .entry)) (now (row .entry)) .sheets)
         × (r .number ≡ 0 → StartsOf shape (now (col .entry)) (now (row .entry)) (now (columns .exit)) (now (rows .exit))) ⌝ }
 {
@@ -51,8 +53,8 @@ pub fn run_block(
     run: Run,
     col: &[i32],
     row: &[i32],
-    columns: &[u16; 32],
-    rows: &[u16; 32],
+    columns: &[u16; Sheet::FACTORS],
+    rows: &[u16; Sheet::FACTORS],
     x: &[i32],
     y: &mut [i32],
 ) -> Answer

@@ -12,6 +12,7 @@ use crate::blocks::size_of;
 use factor::lengths::check_length;
 use factor::run::Run;
 use rules::Answer;
+use rules::Sheet;
 
 // 10: the input is no whole number of blocks of n; then the output, then the bytes.
 fn check_strip(n: usize, x: usize, y: usize, bytes: usize) -> Answer
@@ -33,8 +34,8 @@ fn run_blocks(
     run: Run,
     col: &[i32],
     row: &[i32],
-    columns: &[u16; 32],
-    rows: &[u16; 32],
+    columns: &[u16; Sheet::FACTORS],
+    rows: &[u16; Sheet::FACTORS],
     n: usize,
     x: &[i32],
     y: &mut [i32],
@@ -73,8 +74,8 @@ pub fn run_strip(
     ensures { λ a. ⌜ GivesStrip a (now (y .exit)) (now (bytes .exit))
         (stripBy shape run (now (col .entry)) (now (row .entry)) (now (x .entry)) (now (y .entry)) (now (bytes .entry))) ⌝ }
 {
-    let mut columns = [0u16; 32];
-    let mut rows = [0u16; 32];
+    let mut columns = [0u16; Sheet::FACTORS];
+    let mut rows = [0u16; Sheet::FACTORS];
     let a = check_sheets(shape, col, row, &mut columns, &mut rows);
     if a.number != 0 {
         return a;

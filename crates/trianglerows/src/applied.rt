@@ -24,7 +24,7 @@ use rules::Block;
 use rules::Rule;
 
 // The whole sum of element j under a lower factor, whose entries for it start at place p.
-fn lower_total(row: &[i32], f: Layout, j: usize, p: usize, v: &[i64; 16]) -> i64
+fn lower_total(row: &[i32], f: Layout, j: usize, p: usize, v: &[i64; Block::LINE]) -> i64
     requires { ⌜ TotalGiven (now row) f j (now v) × (f .kind ≡ Lower) × (p ≡ rowOf f j .at) ⌝ }
     ensures { λ s. ⌜ s ≡ totalOf (now (row .entry)) f j (now (v .entry)) ⌝ }
 {
@@ -32,7 +32,7 @@ fn lower_total(row: &[i32], f: Layout, j: usize, p: usize, v: &[i64; 16]) -> i64
 }
 
 // The same under an upper factor of order n.
-fn upper_total(row: &[i32], f: Layout, n: usize, j: usize, p: usize, v: &[i64; 16]) -> i64
+fn upper_total(row: &[i32], f: Layout, n: usize, j: usize, p: usize, v: &[i64; Block::LINE]) -> i64
     requires { ⌜ TotalGiven (now row) f j (now v) × (f .kind ≡ Upper) × (n ≡ f .order) × (p ≡ rowOf f j .at) ⌝ }
     ensures { λ s. ⌜ s ≡ totalOf (now (row .entry)) f j (now (v .entry)) ⌝ }
 {
@@ -49,11 +49,11 @@ fn apply_lower(
     row: &[i32],
     f: Layout,
     d: i32,
-    v: &[i64; 16],
+    v: &[i64; Block::LINE],
     k: usize,
     from: usize,
     to: usize,
-    x: &mut [i32; 256],
+    x: &mut [i32; Block::CELLS],
 ) -> Outcome
     requires { ⌜ RunGiven (now row) f d (now v) k (now x) × (f .kind ≡ Lower) × (from < to) × (to ≤ f .order) ⌝ }
     ensures { λ r. ⌜ RowDone bound (appliedIn rule (now (row .entry)) f d (now (v .entry)) k) (onward (λ u. k + u) from)
@@ -83,11 +83,11 @@ fn apply_upper(
     f: Layout,
     n: usize,
     d: i32,
-    v: &[i64; 16],
+    v: &[i64; Block::LINE],
     k: usize,
     from: usize,
     to: usize,
-    x: &mut [i32; 256],
+    x: &mut [i32; Block::CELLS],
 ) -> Outcome
     requires { ⌜ RunGiven (now row) f d (now v) k (now x) × (f .kind ≡ Upper) × (n ≡ f .order) × (from < to) × (to ≤ f .order) ⌝ }
     ensures { λ r. ⌜ RowDone bound (appliedIn rule (now (row .entry)) f d (now (v .entry)) k) (onward (λ u. k + u) from)
@@ -116,9 +116,9 @@ fn apply_lower_elements(
     row: &[i32],
     f: Layout,
     d: i32,
-    v: &[i64; 16],
+    v: &[i64; Block::LINE],
     k: usize,
-    x: &mut [i32; 256],
+    x: &mut [i32; Block::CELLS],
 ) -> Outcome
     requires { ⌜ RunGiven (now row) f d (now v) k (now x) × (f .kind ≡ Lower) ⌝ }
     ensures { λ r. ⌜ RowDone bound (appliedIn rule (now (row .entry)) f d (now (v .entry)) k) (λ u. k + u)
@@ -144,9 +144,9 @@ fn apply_upper_elements(
     row: &[i32],
     f: Layout,
     d: i32,
-    v: &[i64; 16],
+    v: &[i64; Block::LINE],
     k: usize,
-    x: &mut [i32; 256],
+    x: &mut [i32; Block::CELLS],
 ) -> Outcome
     requires { ⌜ RunGiven (now row) f d (now v) k (now x) × (f .kind ≡ Upper) ⌝ }
     ensures { λ r. ⌜ RowDone bound (appliedIn rule (now (row .entry)) f d (now (v .entry)) k) (λ u. k + u)
@@ -174,14 +174,14 @@ fn apply_lower_four(
     row: &[i32],
     fb: Layout,
     i: usize,
-    x: &mut [i32; 256],
+    x: &mut [i32; Block::CELLS],
 ) -> Outcome
     requires { ⌜ RowAsks (now col) fa (now row) fb i (now x) × (fb .kind ≡ Lower) × (fb .order ≡ 4) ⌝ }
     ensures { λ r. ⌜ RowDone bound (plain (appliedOf rule (now (col .entry)) fa (now (row .entry)) fb (now (x .entry))))
         (inRow (fb .order) i) (fb .order) (now (x .entry)) (now (x .exit)) (r .ok) ⌝ }
 {
     let d = sign_at(col, fa, i);
-    let mut v = [0i64; 16];
+    let mut v = [0i64; Block::LINE];
     lower_sums(col, fa, i, x, 4, &mut v);
     apply_lower(rule, row, fb, d, &v, i * 4, 0, 4, x)
 }
@@ -194,7 +194,7 @@ pub fn apply_lower_row(
     row: &[i32],
     fb: Layout,
     i: usize,
-    x: &mut [i32; 256],
+    x: &mut [i32; Block::CELLS],
 ) -> Outcome
     requires { ⌜ RowAsks (now col) fa (now row) fb i (now x) × (fb .kind ≡ Lower) ⌝ }
     ensures { λ r. ⌜ RowDone bound (plain (appliedOf rule (now (col .entry)) fa (now (row .entry)) fb (now (x .entry))))
@@ -205,7 +205,7 @@ pub fn apply_lower_row(
         return apply_lower_four(rule, col, fa, row, fb, i, x);
     }
     let d = sign_at(col, fa, i);
-    let mut v = [0i64; 16];
+    let mut v = [0i64; Block::LINE];
     lower_sums(col, fa, i, x, n, &mut v);
     apply_lower_elements(rule, row, fb, d, &v, i * n, x)
 }
@@ -218,14 +218,14 @@ fn apply_upper_four(
     row: &[i32],
     fb: Layout,
     i: usize,
-    x: &mut [i32; 256],
+    x: &mut [i32; Block::CELLS],
 ) -> Outcome
     requires { ⌜ RowAsks (now col) fa (now row) fb i (now x) × (fb .kind ≡ Upper) × (fb .order ≡ 4) ⌝ }
     ensures { λ r. ⌜ RowDone bound (plain (appliedOf rule (now (col .entry)) fa (now (row .entry)) fb (now (x .entry))))
         (inRow (fb .order) i) (fb .order) (now (x .entry)) (now (x .exit)) (r .ok) ⌝ }
 {
     let d = sign_at(col, fa, i);
-    let mut v = [0i64; 16];
+    let mut v = [0i64; Block::LINE];
     upper_sums(col, fa, i, x, 4, &mut v);
     apply_upper(rule, row, fb, 4, d, &v, i * 4, 0, 4, x)
 }
@@ -238,7 +238,7 @@ pub fn apply_upper_row(
     row: &[i32],
     fb: Layout,
     i: usize,
-    x: &mut [i32; 256],
+    x: &mut [i32; Block::CELLS],
 ) -> Outcome
     requires { ⌜ RowAsks (now col) fa (now row) fb i (now x) × (fb .kind ≡ Upper) ⌝ }
     ensures { λ r. ⌜ RowDone bound (plain (appliedOf rule (now (col .entry)) fa (now (row .entry)) fb (now (x .entry))))
@@ -249,7 +249,7 @@ pub fn apply_upper_row(
         return apply_upper_four(rule, col, fa, row, fb, i, x);
     }
     let d = sign_at(col, fa, i);
-    let mut v = [0i64; 16];
+    let mut v = [0i64; Block::LINE];
     upper_sums(col, fa, i, x, n, &mut v);
     apply_upper_elements(rule, row, fb, d, &v, i * n, x)
 }

@@ -10,9 +10,17 @@ use joint::elements::diagonal_of;
 use joint::elements::sign_at;
 use joint::sums::side_sums;
 use joint::sums::side_sums_with;
+use rules::Block;
 
 // Under a lower factor: over the rows above it, and its own numbers.
-pub fn lower_sums(col: &[i32], f: Layout, i: usize, x: &[i32; 256], n: usize, v: &mut [i64; 16])
+pub fn lower_sums(
+    col: &[i32],
+    f: Layout,
+    i: usize,
+    x: &[i32; Block::CELLS],
+    n: usize,
+    v: &mut [i64; Block::LINE],
+)
     requires { ⌜ RowGiven (now col) f i (now x) n (now v) × (f .kind ≡ Lower) ⌝ }
     ensures { λ _. ⌜ now (v .exit) ≡ sumsAt (now (col .entry)) f i (now (x .entry)) n ⌝ }
 {
@@ -35,9 +43,9 @@ pub fn lower_rest_sums(
     col: &[i32],
     f: Layout,
     i: usize,
-    x: &[i32; 256],
+    x: &[i32; Block::CELLS],
     n: usize,
-    v: &mut [i64; 16],
+    v: &mut [i64; Block::LINE],
 )
     requires { ⌜ RowGiven (now col) f i (now x) n (now v) × (f .kind ≡ Lower) ⌝ }
     ensures { λ _. ⌜ now (v .exit) ≡ restSumsAt (now (col .entry)) f i (now (x .entry)) n ⌝ }
@@ -47,7 +55,14 @@ pub fn lower_rest_sums(
 }
 
 // Under an upper factor: over the rows below it, and its own numbers.
-pub fn upper_sums(col: &[i32], f: Layout, i: usize, x: &[i32; 256], n: usize, v: &mut [i64; 16])
+pub fn upper_sums(
+    col: &[i32],
+    f: Layout,
+    i: usize,
+    x: &[i32; Block::CELLS],
+    n: usize,
+    v: &mut [i64; Block::LINE],
+)
     requires { ⌜ RowGiven (now col) f i (now x) n (now v) × (f .kind ≡ Upper) ⌝ }
     ensures { λ _. ⌜ now (v .exit) ≡ sumsAt (now (col .entry)) f i (now (x .entry)) n ⌝ }
 {
@@ -71,9 +86,9 @@ pub fn upper_rest_sums(
     col: &[i32],
     f: Layout,
     i: usize,
-    x: &[i32; 256],
+    x: &[i32; Block::CELLS],
     n: usize,
-    v: &mut [i64; 16],
+    v: &mut [i64; Block::LINE],
 )
     requires { ⌜ RowGiven (now col) f i (now x) n (now v) × (f .kind ≡ Upper) ⌝ }
     ensures { λ _. ⌜ now (v .exit) ≡ restSumsAt (now (col .entry)) f i (now (x .entry)) n ⌝ }

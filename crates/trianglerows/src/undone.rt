@@ -6,7 +6,7 @@ ghost use lib.IntN.{_+ℤ_, _*ℤ_};
 ghost use Rattle.whole.specs.Diff.{Within};
 ghost use Rattle.whole.specs.Sum.{sum};
 ghost use Rattle.rules.specs.declared.Kind.the-variants.{Lower, Upper};
-ghost use Rattle.rules.specs.Numbers.{bound, at};
+ghost use Rattle.rules.specs.Numbers.{mostOrder, bound, at};
 ghost use Rattle.factor.specs.Layouts.{rowOf};
 ghost use Rattle.factor.specs.SumBounds.{Bounded};
 ghost use Rattle.joint.specs.Sums.{Wide, mostColumn};
@@ -30,7 +30,7 @@ use rules::Block;
 use rules::Rule;
 
 // The own term, and m entries times the first m sums, of which last is the last.
-fn sum_ending(a: &[i32], p: usize, v: &[i64; 16], m: usize, last: i64, own: i64) -> i64
+fn sum_ending(a: &[i32], p: usize, v: &[i64; Block::LINE], m: usize, last: i64, own: i64) -> i64
     requires { ⌜ Wide (now a) p (now v) 0 m × Within mostOwn own × (last ≡ recentOf (now v) (λ t. t) m) ⌝ }
     ensures { λ s. ⌜ s ≡ own +ℤ sum m (λ j. at (now (a .entry)) (p + j) *ℤ at (now (v .entry)) (0 + j)) ⌝ }
 {
@@ -41,7 +41,15 @@ fn sum_ending(a: &[i32], p: usize, v: &[i64; 16], m: usize, last: i64, own: i64)
 }
 
 // The own term, and m entries times the sums from column k on, of which first is the first.
-fn sum_starting(a: &[i32], p: usize, v: &[i64; 16], k: usize, m: usize, first: i64, own: i64) -> i64
+fn sum_starting(
+    a: &[i32],
+    p: usize,
+    v: &[i64; Block::LINE],
+    k: usize,
+    m: usize,
+    first: i64,
+    own: i64,
+) -> i64
     requires { ⌜ Wide (now a) p (now v) k m × Within mostOwn own × (0 < m → first ≡ at (now v) k) ⌝ }
     ensures { λ s. ⌜ s ≡ own +ℤ sum m (λ j. at (now (a .entry)) (p + j) *ℤ at (now (v .entry)) (k + j)) ⌝ }
 {
@@ -52,7 +60,7 @@ fn sum_starting(a: &[i32], p: usize, v: &[i64; 16], k: usize, m: usize, first: i
 }
 
 // The whole sum of element j under a lower factor, whose entries for it start at place p; last is the sum of the column before.
-fn lower_total(row: &[i32], f: Layout, j: usize, p: usize, v: &[i64; 16], last: i64) -> i64
+fn lower_total(row: &[i32], f: Layout, j: usize, p: usize, v: &[i64; Block::LINE], last: i64) -> i64
     requires { ⌜ TotalGiven (now row) f j (now v) × (f .kind ≡ Lower) × (p ≡ rowOf f j .at)
         × (last ≡ recentOf (now v) (λ t. t) j) ⌝ }
     ensures { λ s. ⌜ s ≡ totalOf (now (row .entry)) f j (now (v .entry)) ⌝ }
@@ -68,7 +76,7 @@ fn upper_total(
     j: usize,
     m: usize,
     p: usize,
-    v: &[i64; 16],
+    v: &[i64; Block::LINE],
     last: i64,
 ) -> i64
     requires { ⌜ TotalGiven (now row) f j (now v) × (f .kind ≡ Upper) × (p ≡ rowOf f j .at) × (j + 1 + m ≡ f .order)
@@ -80,8 +88,8 @@ fn upper_total(
 }
 
 // The sum of the column before j, if there is one.
-fn left_of(v: &[i64; 16], j: usize) -> i64
-    requires { ⌜ (j ≤ 16) × Bounded mostColumn (now v) ⌝ }
+fn left_of(v: &[i64; Block::LINE], j: usize) -> i64
+    requires { ⌜ (j ≤ mostOrder) × Bounded mostColumn (now v) ⌝ }
     ensures { λ r. ⌜ r ≡ recentOf (now (v .entry)) (λ t. t) j ⌝ }
 {
     if j == 0 {
@@ -100,8 +108,8 @@ fn undo_lower(
     i: usize,
     from: usize,
     to: usize,
-    v: &mut [i64; 16],
-    x: &mut [i32; 256],
+    v: &mut [i64; Block::LINE],
+    x: &mut [i32; Block::CELLS],
 ) -> Outcome
     requires { ⌜ UndoGiven (now col) fa (now row) fb i from (now x) (now v) × (fb .kind ≡ Lower) × (from < to)
         × (to ≤ fb .order) ⌝ }
@@ -132,8 +140,8 @@ fn undo_lower(
 }
 
 // The sum of the column that was recovered last of t, from the right.
-fn right_of(v: &[i64; 16], n: usize, t: usize) -> i64
-    requires { ⌜ (t ≤ n) × (n ≤ 16) × Bounded mostColumn (now v) ⌝ }
+fn right_of(v: &[i64; Block::LINE], n: usize, t: usize) -> i64
+    requires { ⌜ (t ≤ n) × (n ≤ mostOrder) × Bounded mostColumn (now v) ⌝ }
     ensures { λ r. ⌜ r ≡ recentOf (now (v .entry)) (λ u. n - suc u) t ⌝ }
 {
     if t == 0 {
@@ -153,8 +161,8 @@ fn undo_upper(
     i: usize,
     from: usize,
     to: usize,
-    v: &mut [i64; 16],
-    x: &mut [i32; 256],
+    v: &mut [i64; Block::LINE],
+    x: &mut [i32; Block::CELLS],
 ) -> Outcome
     requires { ⌜ UndoGiven (now col) fa (now row) fb i from (now x) (now v) × (fb .kind ≡ Upper) × (from < to)
         × (to ≤ fb .order) × (n ≡ fb .order) ⌝ }
@@ -193,8 +201,8 @@ fn undo_lower_elements(
     row: &[i32],
     fb: Layout,
     i: usize,
-    v: &mut [i64; 16],
-    x: &mut [i32; 256],
+    v: &mut [i64; Block::LINE],
+    x: &mut [i32; Block::CELLS],
 ) -> Outcome
     requires { ⌜ UndoGiven (now col) fa (now row) fb i 0 (now x) (now v) × (fb .kind ≡ Lower) ⌝ }
     ensures { λ r. ⌜ RowDone bound (undoneOf rule (now (col .entry)) fa (now (row .entry)) fb) (undoneTurn fb i) (fb .order)
@@ -227,8 +235,8 @@ fn undo_upper_elements(
     row: &[i32],
     fb: Layout,
     i: usize,
-    v: &mut [i64; 16],
-    x: &mut [i32; 256],
+    v: &mut [i64; Block::LINE],
+    x: &mut [i32; Block::CELLS],
 ) -> Outcome
     requires { ⌜ UndoGiven (now col) fa (now row) fb i 0 (now x) (now v) × (fb .kind ≡ Upper) ⌝ }
     ensures { λ r. ⌜ RowDone bound (undoneOf rule (now (col .entry)) fa (now (row .entry)) fb) (undoneTurn fb i) (fb .order)
@@ -261,13 +269,13 @@ fn undo_lower_four(
     row: &[i32],
     fb: Layout,
     i: usize,
-    x: &mut [i32; 256],
+    x: &mut [i32; Block::CELLS],
 ) -> Outcome
     requires { ⌜ RowAsks (now col) fa (now row) fb i (now x) × (fb .kind ≡ Lower) × (fb .order ≡ 4) ⌝ }
     ensures { λ r. ⌜ RowDone bound (undoneOf rule (now (col .entry)) fa (now (row .entry)) fb) (undoneTurn fb i) (fb .order)
         (now (x .entry)) (now (x .exit)) (r .ok) ⌝ }
 {
-    let mut v = [0i64; 16];
+    let mut v = [0i64; Block::LINE];
     lower_rest_sums(col, fa, i, x, 4, &mut v);
     undo_lower(rule, col, fa, row, fb, i, 0, 4, &mut v, x)
 }
@@ -280,13 +288,13 @@ fn undo_lower_eight(
     row: &[i32],
     fb: Layout,
     i: usize,
-    x: &mut [i32; 256],
+    x: &mut [i32; Block::CELLS],
 ) -> Outcome
     requires { ⌜ RowAsks (now col) fa (now row) fb i (now x) × (fb .kind ≡ Lower) × (fb .order ≡ 8) ⌝ }
     ensures { λ r. ⌜ RowDone bound (undoneOf rule (now (col .entry)) fa (now (row .entry)) fb) (undoneTurn fb i) (fb .order)
         (now (x .entry)) (now (x .exit)) (r .ok) ⌝ }
 {
-    let mut v = [0i64; 16];
+    let mut v = [0i64; Block::LINE];
     lower_rest_sums(col, fa, i, x, 8, &mut v);
     let a = undo_lower(rule, col, fa, row, fb, i, 0, 4, &mut v, x);
     if !a.ok {
@@ -303,7 +311,7 @@ pub fn undo_lower_row(
     row: &[i32],
     fb: Layout,
     i: usize,
-    x: &mut [i32; 256],
+    x: &mut [i32; Block::CELLS],
 ) -> Outcome
     requires { ⌜ RowAsks (now col) fa (now row) fb i (now x) × (fb .kind ≡ Lower) ⌝ }
     ensures { λ r. ⌜ RowDone bound (undoneOf rule (now (col .entry)) fa (now (row .entry)) fb) (undoneTurn fb i) (fb .order)
@@ -316,7 +324,7 @@ pub fn undo_lower_row(
     if n == 8 {
         return undo_lower_eight(rule, col, fa, row, fb, i, x);
     }
-    let mut v = [0i64; 16];
+    let mut v = [0i64; Block::LINE];
     lower_rest_sums(col, fa, i, x, n, &mut v);
     undo_lower_elements(rule, col, fa, row, fb, i, &mut v, x)
 }
@@ -329,13 +337,13 @@ fn undo_upper_four(
     row: &[i32],
     fb: Layout,
     i: usize,
-    x: &mut [i32; 256],
+    x: &mut [i32; Block::CELLS],
 ) -> Outcome
     requires { ⌜ RowAsks (now col) fa (now row) fb i (now x) × (fb .kind ≡ Upper) × (fb .order ≡ 4) ⌝ }
     ensures { λ r. ⌜ RowDone bound (undoneOf rule (now (col .entry)) fa (now (row .entry)) fb) (undoneTurn fb i) (fb .order)
         (now (x .entry)) (now (x .exit)) (r .ok) ⌝ }
 {
-    let mut v = [0i64; 16];
+    let mut v = [0i64; Block::LINE];
     upper_rest_sums(col, fa, i, x, 4, &mut v);
     undo_upper(rule, col, fa, row, fb, 4, i, 0, 4, &mut v, x)
 }
@@ -348,13 +356,13 @@ fn undo_upper_eight(
     row: &[i32],
     fb: Layout,
     i: usize,
-    x: &mut [i32; 256],
+    x: &mut [i32; Block::CELLS],
 ) -> Outcome
     requires { ⌜ RowAsks (now col) fa (now row) fb i (now x) × (fb .kind ≡ Upper) × (fb .order ≡ 8) ⌝ }
     ensures { λ r. ⌜ RowDone bound (undoneOf rule (now (col .entry)) fa (now (row .entry)) fb) (undoneTurn fb i) (fb .order)
         (now (x .entry)) (now (x .exit)) (r .ok) ⌝ }
 {
-    let mut v = [0i64; 16];
+    let mut v = [0i64; Block::LINE];
     upper_rest_sums(col, fa, i, x, 8, &mut v);
     let a = undo_upper(rule, col, fa, row, fb, 8, i, 0, 4, &mut v, x);
     if !a.ok {
@@ -371,7 +379,7 @@ pub fn undo_upper_row(
     row: &[i32],
     fb: Layout,
     i: usize,
-    x: &mut [i32; 256],
+    x: &mut [i32; Block::CELLS],
 ) -> Outcome
     requires { ⌜ RowAsks (now col) fa (now row) fb i (now x) × (fb .kind ≡ Upper) ⌝ }
     ensures { λ r. ⌜ RowDone bound (undoneOf rule (now (col .entry)) fa (now (row .entry)) fb) (undoneTurn fb i) (fb .order)
@@ -384,7 +392,7 @@ pub fn undo_upper_row(
     if n == 8 {
         return undo_upper_eight(rule, col, fa, row, fb, i, x);
     }
-    let mut v = [0i64; 16];
+    let mut v = [0i64; Block::LINE];
     upper_rest_sums(col, fa, i, x, n, &mut v);
     undo_upper_elements(rule, col, fa, row, fb, i, &mut v, x)
 }

@@ -1,12 +1,13 @@
 -- The sum with magnitudes, raised, and the share are small, and so is what is made of them.
 use mathlib.Core.Path.{_≡_, _∙_}
-use Prim.Native.Nat.{_+_}
+use Prim.Native.Nat.{_+_, _-_}
 use lib.IntN.{ℤ}
 use mir.Facts.{toZ-ofZ}
 use mir.Syntax.{w64}
 use mir.Val.{toZ, ofZ}
 use Rattle.whole.specs.Diff.{Within}
 use Rattle.whole.specs.Machine.{fits, back, within-+, within-pos, within-shr}
+use Rattle.rules.specs.Numbers.{unit²}
 use Rattle.rules.specs.Stages.{ceiling}
 use Rattle.joint.specs.Elements.{mostJoint}
 use Rattle.joint.specs.Allowances.{magnitudeSum, wholeRow, shareOf, allowedAt, magnitude-sum-small, share-small}
@@ -26,10 +27,14 @@ small s = magnitude-sum-small (s .pre .0) (s .args .j) (s .pre .1) (s .pre .2) (
 value : (c : tie.After-magnitude-sum-at) → toZ w64 (ofZ w64 (c .magnitude-sum-at .result)) ≡ S (c .before)
 value c = back w64 _ (c .magnitude-sum-at .ok) ∙ c .magnitude-sum-at .ensures ∙ rw (toZ-ofZ (c .before .fits .b))
 
+quotient-small : (s : tie.Start) → Within (mostJoint + (unit² - 1)) (ceiling unit² (S s))
+unfolding ceiling
+quotient-small s = within-shr unit² (within-+ (small s) (within-pos (unit² - 1)))
+
 raise-joint-requires : tie.Need-raise-joint-requires
 raise-joint-requires c κs =
     let t = small (c .before) in
-    rw (value c) (fits (within-+ t (within-pos 16777215)) tt, fits (within-shr 16777216 (within-+ t (within-pos 16777215))) tt)
+    rw (value c) (fits (within-+ t (within-pos (unit² - 1))) tt, fits (quotient-small (c .before)) tt)
 
 is-whole-row-requires : tie.Need-is-whole-row-requires
 is-whole-row-requires c κs = search needs
@@ -38,13 +43,8 @@ share-unless-whole-requires : tie.Need-share-unless-whole-requires
 share-unless-whole-requires c κs = search needs
 
 quotient : (c : tie.After-raise-joint) →
-    toZ w64 (ofZ w64 (c .raise-joint .result)) ≡ ceiling 16777216 (S (c .before .before))
-unfolding ceiling
+    toZ w64 (ofZ w64 (c .raise-joint .result)) ≡ ceiling unit² (S (c .before .before))
 quotient c = back w64 _ (c .raise-joint .ok) ∙ c .raise-joint .ensures ∙ rw (value (c .before))
-
-quotient-small : (s : tie.Start) → Within (mostJoint + 16777215) (ceiling 16777216 (S s))
-unfolding ceiling
-quotient-small s = within-shr 16777216 (within-+ (small s) (within-pos 16777215))
 
 share : (c : tie.After-share-unless-whole) →
     toZ w64 (ofZ w64 (c .share-unless-whole .result)) ≡ shareOf (c .before .before .before .before .args .rule)

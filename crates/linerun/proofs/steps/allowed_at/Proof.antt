@@ -1,15 +1,15 @@
 -- The sum of magnitudes is small (`magnitudes-small`), and so is what is added to the allowance.
 use mathlib.Core.Bool.{Bool, true, false, cond}
 use mathlib.Core.Path.{_≡_, _∙_}
-use Prim.Native.Nat.{_+_}
+use Prim.Native.Nat.{_+_, _-_}
 use native.Mathlib.Omega.{arith}
-use lib.IntN.{ℤ, pos, _+ℤ_}
-use lib.Signed.{shrZ}
+use lib.IntN.{ℤ, pos}
 use mir.Syntax.{w32, w64}
 use mir.Val.{toZ, ofZ}
 use Rattle.whole.specs.Diff.{Within}
 use Rattle.whole.specs.Machine.{fits, reads, back, within-+, within-le, within-pos, within-shr}
 use Rattle.rules.specs.declared.Rule.{Rule}
+use Rattle.rules.specs.Numbers.{unit}
 use Rattle.rules.specs.Stages.{ceiling, share}
 use Rattle.factor.specs.Layouts.{rowOf, along}
 use Rattle.factor.specs.Magnitudes.{magnitudeAt, whole, row-entries, magnitudes-small}
@@ -44,7 +44,7 @@ abbrev A : tie.Start → ℤ
 A s = along (magnitudeAt (s .args .sheet .now)) (rowOf (s .args .f) (s .args .m)) (s .args .m) (s .args .b .now)
 
 abbrev Q : tie.Start → ℤ
-Q s = shrZ (A s +ℤ pos 4095) 4096
+Q s = ceiling unit (A s)
 
 abbrev W : tie.Start → Bool
 W s =
@@ -62,8 +62,9 @@ magnitudes c =
 small : (s : tie.Start) → Within mostSum (A s)
 small s = magnitudes-small (row-of-16 (s .pre .0) (s .args .m) (s .pre .1)) (s .pre .2)
 
-quotient-small : (s : tie.Start) → Within (mostSum + 4095) (Q s)
-quotient-small s = within-shr 4096 (within-+ (small s) (within-pos 4095))
+quotient-small : (s : tie.Start) → Within (mostSum + (unit - 1)) (Q s)
+unfolding ceiling
+quotient-small s = within-shr unit (within-+ (small s) (within-pos (unit - 1)))
 
 share-small : (rule : Rule) (b : Bool) → Within 2048 (cond b (pos 0) (pos (share rule)))
 share-small rule true = within-le (omega arith) (within-pos 0)
@@ -79,7 +80,7 @@ added c = back w64 _ (c .row-share .ok) ∙ c .row-share .ensures ∙ rw (c .bef
 raise-line-requires : tie.Need-raise-line-requires
 raise-line-requires c κs =
     let s = c .before .before .before .before in
-    rw (magnitudes c) (fits (within-+ (small s) (within-pos 4095)) tt, fits (quotient-small s) tt)
+    rw (magnitudes c) (fits (within-+ (small s) (within-pos (unit - 1))) tt, fits (quotient-small s) tt)
 
 row-share-requires : tie.Need-row-share-requires
 row-share-requires c κs =
@@ -95,7 +96,7 @@ raised-requires c κs =
     (fits b tt, fits (within-+ b (quotient-small s)) tt, fits (within-+ (within-+ b (quotient-small s)) h) tt)
 
 returns : tie.Need-returns
-unfolding allowedAt ceiling
+unfolding allowedAt
 returns c =
     let s = c .before .before .before .before .before .before .before in
     let b = s .pre .2 .small (s .args .m) in
