@@ -5,6 +5,7 @@ pub mod First
 pub mod Low
 pub mod AnswersInTurn
 pub mod Prefix
+pub mod LongestSheet
 pub mod Sound
 pub mod Cut
 pub mod Plans
