@@ -8,6 +8,7 @@ use Rattle.whole.specs.Sum.{sum}
 use Rattle.rules.specs.declared.Answer.{Answer}
 use Rattle.rules.specs.declared.Kind.{Kind}
 use Rattle.rules.specs.declared.Kind.the-variants.{Lower, Upper, Single}
+use Rattle.rules.specs.Numbers.{unit, unit²}
 use Rattle.rules.specs.Sheets.{go, times, among, faultOf, one, kindOf, triangle, weights, body, factor, closed, head}
 use Rattle.rules.specs.Sheets.{reading}
 use Rattle.rules.specs.Factors.{Factor, numbers, signsAt, above, entriesBefore, factorAt, factorsFrom, factors, hasEntry}
@@ -180,3 +181,12 @@ pub orders : map orderOf (Lower ∷ Upper ∷ Single ∷ []) ≡
     ∷ []
 unfolding those byTurn turn order inRow jointShared
 orders = refl
+
+-- "The quotient is a floor, also below zero": sums around zero, at the scale of a line and at that of a rectangle
+pub roundings :
+    (map (R Nearest unit) (neg 6145 ∷ neg 6144 ∷ neg 2049 ∷ neg 2048 ∷ neg 1 ∷ pos 0 ∷ pos 2047 ∷ pos 2048 ∷ []) ≡
+    neg 2 ∷ neg 1 ∷ neg 1 ∷ pos 0 ∷ pos 0 ∷ pos 0 ∷ pos 0 ∷ pos 1 ∷ [])
+    × (map (R Nearest unit²) (neg 8388609 ∷ neg 8388608 ∷ neg 1 ∷ pos 0 ∷ pos 8388607 ∷ pos 8388608 ∷ []) ≡
+    neg 1 ∷ pos 0 ∷ pos 0 ∷ pos 0 ∷ pos 0 ∷ pos 1 ∷ [])
+unfolding R
+roundings = (refl, refl)

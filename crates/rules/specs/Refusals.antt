@@ -110,7 +110,7 @@ table =
     ∷ pairs b (sheet₂ 1 (upper (pos 1) (pos 1) (pos 2048))) (refused 12 0 0)
     -- "orders and single rows may differ"
     ∷ pairs d (sheet₂ 1 (single (pos 0) (pos 1) (pos 1) (pos 2048))) accepted
-    -- a run, "12, 10 for the input, 10 for the output, then 11 or 13", and 1 to 9 before them; "Side is 1 .. for the output of 10"
+    -- a run: 1 to 9, then "12, 10 for the input, 10 for the output, then 11 or 13"; "Side is 1 .. for the output of 10"
     ∷ gives (forwardCall Nearest (line (sheet₂ 0 [])) [] found₂) (refused 3 0 1) found₂
     ∷ gives (forwardCall Nearest (joint a (sheet₂ 1 (upper (pos 1) (pos 1) (pos 2048)))) [] found₄) (refused 12 0 0) found₄
     ∷ gives (forwardCall Nearest (line a) [] []) (refused 10 0 0) []
