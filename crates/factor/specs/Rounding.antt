@@ -2,7 +2,7 @@
 use mathlib.Core.Bool.{true, false}
 use mathlib.Core.Logic.{inl, inr}
 use mathlib.Core.Path.{_≡_, refl, sym}
-use Prim.Native.Nat.{ℕ, _+_, _/_}
+use Prim.Native.Nat.{ℕ, _+_, _/_, _<_}
 use native.Mathlib.Omega.{arith}
 use lib.IntN.{ℤ, pos, _+ℤ_, _-ℤ_, _*ℤ_}
 use lib.Signed.{shrZ, ltZ}
@@ -11,12 +11,17 @@ use Rattle.whole.specs.Laws.{Sign}
 use Rattle.whole.specs.Machine.{within-+, within-pos, within-shr}
 use Rattle.rules.specs.declared.Rule.{Rule}
 use Rattle.rules.specs.declared.Rule.the-variants.{Nearest}
-use Rattle.rules.specs.Stages.{R, share}
+use Rattle.rules.specs.Stages.{R, Rounds, share}
+use Rattle.rules.specs.Laws.Rounding.{rounds}
 use Rattle.laws.specs.Tests.{apart}
 
 pub rounds-as : (rule : Rule) (S : ℕ) (s : ℤ) → R rule S s ≡ shrZ (s +ℤ pos (S / 2)) S
 unfolding R
 rounds-as Nearest S s = refl
+
+-- a number that R gives is the one that the rule names
+pub rounded : (rule : Rule) (S : ℕ) (s : ℤ) {r : ℤ} → 0 < S → r ≡ R rule S s → (r ≡ R rule S s) × Rounds rule S s r
+rounded rule S s h e = (e, rw e (rounds rule S s h))
 
 pub share-is : (rule : Rule) → share rule ≡ 2048
 unfolding share

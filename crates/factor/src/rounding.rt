@@ -8,24 +8,26 @@ ghost use mir.Syntax.{w64};
 ghost use mir.Val.{SFits};
 ghost use Rattle.whole.specs.Laws.{Sign};
 ghost use Rattle.rules.specs.Numbers.{unit, unit²};
-ghost use Rattle.rules.specs.Stages.{R, share, ceiling};
+ghost use Rattle.rules.specs.Stages.{R, Rounds, share, ceiling};
 use rules::Rule;
 use rules::Scale;
 
-// "R(s) is the floor of (s + 2048)/4096": a shift to the right is a floor, also below zero, so -2048 gives 0 and -2049 gives -1.
+// "R(s) is the floor of (s + 2048)/4096", also below zero: 4096·r ≤ s + 2048 < 4096·r + 4096. A shift to the right is that floor.
+// So -2048 gives 0 and -2049 gives -1 (`roundings`).
 pub fn round_line(rule: Rule, s: i64) -> i64
     requires { ⌜ SFits w64 (s +ℤ pos (unit / 2)) × SFits w64 (R rule unit s) ⌝ }
-    ensures { λ r. ⌜ r ≡ R rule unit s ⌝ }
+    ensures { λ r. ⌜ (r ≡ R rule unit s) × Rounds rule unit s r ⌝ }
 {
     match rule {
         Rule::Nearest => return (s + Scale::LINE_HALF) >> Scale::LINE_BITS,
     }
 }
 
-// "R2(s) is the floor of (s + 8388608)/16777216", also below zero: -8388608 gives 0 and -8388609 gives -1.
+// "R2(s) is the floor of (s + 8388608)/16777216", also below zero: 16777216·r ≤ s + 8388608 < 16777216·r + 16777216.
+// So -8388608 gives 0 and -8388609 gives -1 (`roundings`).
 pub fn round_joint(rule: Rule, s: i64) -> i64
     requires { ⌜ SFits w64 (s +ℤ pos (unit² / 2)) × SFits w64 (R rule unit² s) ⌝ }
-    ensures { λ r. ⌜ r ≡ R rule unit² s ⌝ }
+    ensures { λ r. ⌜ (r ≡ R rule unit² s) × Rounds rule unit² s r ⌝ }
 {
     match rule {
         Rule::Nearest => return (s + Scale::JOINT_HALF) >> Scale::JOINT_BITS,

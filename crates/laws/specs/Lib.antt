@@ -5,6 +5,7 @@ pub mod First
 pub mod Low
 pub mod AnswersInTurn
 pub mod Prefix
+pub mod LongestSheet
 pub mod Sound
 pub mod Cut
 pub mod Plans
@@ -13,3 +14,4 @@ pub mod CutLaw
 pub mod Returned
 pub mod Strips
 pub mod ReturnedStrips
+pub mod LawCases

@@ -30,7 +30,7 @@ use Rattle.laws.specs.Accepted.{head-next, headed, upToEnd, up-to-end, A
 abbrev pub longest : ℕ
 longest = 4386
 
-abbrev longestFactor : ℕ
+abbrev pub longestFactor : ℕ
 longestFactor = 137
 
 pub numbers-most : (n : ℕ) (kind : Kind) → 1 ≤ n → n ≤ mostOrder → numbers n kind ≤ longestFactor

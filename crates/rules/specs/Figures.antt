@@ -8,6 +8,7 @@ use Rattle.whole.specs.Sum.{sum}
 use Rattle.rules.specs.declared.Answer.{Answer}
 use Rattle.rules.specs.declared.Kind.{Kind}
 use Rattle.rules.specs.declared.Kind.the-variants.{Lower, Upper, Single}
+use Rattle.rules.specs.Numbers.{unit, unit²}
 use Rattle.rules.specs.Sheets.{go, times, among, faultOf, one, kindOf, triangle, weights, body, factor, closed, head}
 use Rattle.rules.specs.Sheets.{reading}
 use Rattle.rules.specs.Factors.{Factor, numbers, signsAt, above, entriesBefore, factorAt, factorsFrom, factors, hasEntry}
@@ -25,6 +26,7 @@ use Rattle.rules.specs.Calls.{ranMemory, runReply, forwardCall, inverseC
 
 -- what a case shows, and what document 01 prints for it
 pub data Shown : Type 0 where
+  answer-of : Answer → Shown
   numbers-of : Reply ℤ → Shown
   bytes-of : Reply ℕ → Shown
   bytes : List ℕ → Shown
@@ -34,10 +36,10 @@ pub record Figure : Type 0 where
   pub found : Shown
   pub printed : Shown
 
-abbrev gives : Reply ℤ → Answer → List ℤ → Figure
+abbrev pub gives : Reply ℤ → Answer → List ℤ → Figure
 gives r a v = record { found = numbers-of r; printed = numbers-of (record { answer = a; memory = v }) }
 
-abbrev spells : Reply ℕ → Answer → List ℕ → Figure
+abbrev pub spells : Reply ℕ → Answer → List ℕ → Figure
 spells r a l = record { found = bytes-of r; printed = bytes-of (record { answer = a; memory = l }) }
 
 -- a forward strip of the built-in recipe
@@ -48,10 +50,10 @@ strips x y b a out marks = record {
 }
 
 -- numbers as document 01 writes them
-abbrev neg : ℕ → ℤ
+abbrev pub neg : ℕ → ℤ
 neg n = negℤ (pos n)
 
-abbrev two : ℤ → ℤ → List ℤ
+abbrev pub two : ℤ → ℤ → List ℤ
 two x y = x ∷ y ∷ []
 
 abbrev three : ℤ → ℤ → ℤ → List ℤ
@@ -67,28 +69,28 @@ abbrev blocks₃ : ℤ → ℤ → ℤ → ℤ → List ℤ
 blocks₃ x o y z = x ∷ o ∷ o ∷ o ∷ o ∷ y ∷ o ∷ o ∷ o ∷ z ∷ o ∷ o ∷ []
 
 -- what the lent slice holds before a call
-abbrev found₂ : List ℤ
+abbrev pub found₂ : List ℤ
 found₂ = two (pos 9) (neg 9)
 
-abbrev found₄ : List ℤ
+abbrev pub found₄ : List ℤ
 found₄ = four (pos 0) (pos 0) (pos 0) (pos 0)
 
-abbrev a : List ℤ
+abbrev pub a : List ℤ
 a = pos 2 ∷ pos 1 ∷ pos 2 ∷ pos 1 ∷ pos 1 ∷ pos 2048 ∷ []
 
-abbrev a-bytes : List ℕ
+abbrev pub a-bytes : List ℕ
 a-bytes = 0x04 ∷ 0x02 ∷ 0x04 ∷ 0x02 ∷ 0x02 ∷ 0x80 ∷ 0x20 ∷ []
 
-abbrev b : List ℤ
+abbrev pub b : List ℤ
 b = pos 2 ∷ pos 2 ∷ pos 2 ∷ pos 1 ∷ pos 1 ∷ pos 2048 ∷ pos 3 ∷ pos 1 ∷ neg 1 ∷ neg 6144 ∷ []
 
 abbrev c : List ℤ
 c = pos 3 ∷ pos 1 ∷ pos 1 ∷ pos 2 ∷ pos 0 ∷ pos 1 ∷ []
 
-abbrev d : List ℤ
+abbrev pub d : List ℤ
 d = pos 3 ∷ pos 1 ∷ pos 4 ∷ pos 1 ∷ pos 1 ∷ neg 1 ∷ pos 1 ∷ pos 4096 ∷ pos 1024 ∷ []
 
-abbrev e : List ℤ
+abbrev pub e : List ℤ
 e = pos 2 ∷ pos 1 ∷ pos 2 ∷ pos 1 ∷ pos 1 ∷ pos 4096 ∷ []
 
 pub table : List Figure
@@ -179,3 +181,12 @@ pub orders : map orderOf (Lower ∷ Upper ∷ Single ∷ []) ≡
     ∷ []
 unfolding those byTurn turn order inRow jointShared
 orders = refl
+
+-- "The quotient is a floor, also below zero": sums around zero, at the scale of a line and at that of a rectangle
+pub roundings :
+    (map (R Nearest unit) (neg 6145 ∷ neg 6144 ∷ neg 2049 ∷ neg 2048 ∷ neg 1 ∷ pos 0 ∷ pos 2047 ∷ pos 2048 ∷ []) ≡
+    neg 2 ∷ neg 1 ∷ neg 1 ∷ pos 0 ∷ pos 0 ∷ pos 0 ∷ pos 0 ∷ pos 1 ∷ [])
+    × (map (R Nearest unit²) (neg 8388609 ∷ neg 8388608 ∷ neg 1 ∷ pos 0 ∷ pos 8388607 ∷ pos 8388608 ∷ []) ≡
+    neg 1 ∷ pos 0 ∷ pos 0 ∷ pos 0 ∷ pos 0 ∷ pos 1 ∷ [])
+unfolding R
+roundings = (refl, refl)

@@ -8,5 +8,6 @@ pub mod Answers
 pub mod Calls
 pub mod Strips
 pub mod Figures
+pub mod Refusals
 pub mod Cosine
 pub mod Laws

@@ -7,7 +7,7 @@ use Prim.Native.Nat.{ℕ, zero, suc, _+_, _-_, _*_, _/_, _%_}
 use lib.Dec.{eqb, leb}
 use lib.IntN.{ℤ, pos, natAbs, _+ℤ_, _-ℤ_, _*ℤ_}
 use lib.ListN.{set, replicate}
-use lib.Signed.{shrZ}
+use lib.Signed.{shrZ, _≤ℤ_, _<ℤ_}
 use Rattle.whole.specs.Sum.{sum}
 use Rattle.rules.specs.declared.Rule.{Rule}
 use Rattle.rules.specs.declared.Rule.the-variants.{Nearest}
@@ -18,6 +18,10 @@ use Rattle.rules.specs.Numbers.{bound, mostAllowance, at}
 -- "R(s) is the floor of (s + 2048)/4096", "R2(s) is the floor of (s + 8388608)/16777216": one function of the scale S
 unfoldable pub R : Rule → ℕ → ℤ → ℤ
 R Nearest S s = shrZ (s +ℤ pos (S / 2)) S
+
+-- "The quotient is a floor, also below zero": what that means of r, with no division. S·r ≤ s + S/2 < S·r + S
+unfoldable pub Rounds : Rule → ℕ → ℤ → ℤ → Type 0
+Rounds Nearest S s r = ((pos S *ℤ r) ≤ℤ (s +ℤ pos (S / 2))) × ((s +ℤ pos (S / 2)) <ℤ ((pos S *ℤ r) +ℤ pos S))
 
 -- what one rounding adds to an allowance
 unfoldable pub share : Rule → ℕ

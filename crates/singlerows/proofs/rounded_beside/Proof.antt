@@ -41,7 +41,7 @@ round-line-requires c κs =
     rw (value c) (fits (within-+ (turned-sum-small a g) (within-pos 2048)) tt, fits (rounded-sum-small a g (s .args .rule)) tt)
 
 returns : tie.Need-returns
-returns c = back w64 _ (c .round-line .ok) ∙ c .round-line .ensures ∙ rw (value (c .before))
+returns c = back w64 _ (c .round-line .ok) ∙ c .round-line .ensures .0 ∙ rw (value (c .before))
 
 pub rounded-beside-spec : {M : Type 1} → statement M
 rounded-beside-spec = tie.close (tie.spec narrow-sum-requires turned-requires round-line-requires returns)

@@ -1,8 +1,9 @@
 -- A shift to the right is the floor that the rule names (`rounds-as`).
+use native.Mathlib.Omega.{arith}
 use borrow.Author.Needs.{needs}
 use mir.Facts.{toZ-ofZ}
 use Rattle.rules.specs.Numbers.{unit²}
-use Rattle.factor.specs.Rounding.{rounds-as}
+use Rattle.factor.specs.Rounding.{rounds-as, rounded}
 use Rattle.factor.proofs.rounding.round_joint.Statement.{statement}
 use Rattle.factor.proofs.rounding.round_joint.Tie as tie
 
@@ -11,7 +12,8 @@ add-result c = search needs
 
 returns : tie.Need-returns
 returns c =
-    rw (toZ-ofZ (c .fits .s), toZ-ofZ (c .pre .0), ← (rounds-as (c .args .rule) unit² (c .args .s))) (toZ-ofZ (c .pre .1))
+    rounded (c .args .rule) unit² (c .args .s) (omega arith)
+    (rw (toZ-ofZ (c .fits .s), toZ-ofZ (c .pre .0), ← (rounds-as (c .args .rule) unit² (c .args .s))) (toZ-ofZ (c .pre .1)))
 
 pub round-joint-spec : {M : Type 1} → statement M
 round-joint-spec = tie.close (tie.spec add-result returns)

@@ -79,7 +79,7 @@ round-line-requires c κs =
     )
 
 returns : tie.Need-returns
-returns c = back w64 _ (c .round-line .ok) ∙ c .round-line .ensures ∙ rw (value (c .before))
+returns c = back w64 _ (c .round-line .ok) ∙ c .round-line .ensures .0 ∙ rw (value (c .before))
 
 pub rounded-sum-spec : {M : Type 1} → statement M
 rounded-sum-spec = tie.close (tie.spec add-e entry-requires entry-requires-2 entry-requires-3 entry-requires-4

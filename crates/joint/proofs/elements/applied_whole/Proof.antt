@@ -17,7 +17,7 @@ round-joint-requires c κs =
 returns : tie.Need-returns
 returns c =
     let s = c .before in
-    back w64 _ (c .round-joint .ok) ∙ c .round-joint .ensures
+    back w64 _ (c .round-joint .ok) ∙ c .round-joint .ensures .0
     ∙ rw (toZ-ofZ (s .fits .s)) (own-inside (s .args .rule) (s .args .s) (s .args .d) (s .args .e) (s .args .x))
 
 pub applied-whole-spec : {M : Type 1} → statement M

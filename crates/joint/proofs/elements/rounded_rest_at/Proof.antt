@@ -69,7 +69,7 @@ round-joint-requires c κs =
 
 returns : tie.Need-returns
 unfolding roundedRest
-returns c = back w64 _ (c .round-joint .ok) ∙ c .round-joint .ensures ∙ rw (value (c .before))
+returns c = back w64 _ (c .round-joint .ok) ∙ c .round-joint .ensures .0 ∙ rw (value (c .before))
 
 pub rounded-rest-at-spec : {M : Type 1} → statement M
 rounded-rest-at-spec =

@@ -28,7 +28,7 @@ round-joint-requires c κs = let s = c .before in
 
 rounded : (c : tie.After-round-joint) →
     toZ w64 (ofZ w64 (c .round-joint .result)) ≡ R (c .before .before .args .rule) unit² (c .before .before .args .s)
-rounded c = back w64 _ (c .round-joint .ok) ∙ c .round-joint .ensures ∙ rw (toZ-ofZ (c .before .before .fits .s))
+rounded c = back w64 _ (c .round-joint .ok) ∙ c .round-joint .ensures .0 ∙ rw (toZ-ofZ (c .before .before .fits .s))
 
 undone-requires : tie.Need-undone-requires
 undone-requires c κs =

@@ -69,7 +69,7 @@ round-line-requires c κs =
 
 returns : tie.Need-returns
 unfolding roundedSum
-returns c = back w64 _ (c .round-line .ok) ∙ c .round-line .ensures ∙ rw (value (c .before))
+returns c = back w64 _ (c .round-line .ok) ∙ c .round-line .ensures .0 ∙ rw (value (c .before))
 
 pub left-sum-spec : {M : Type 1} → statement M
 left-sum-spec =

@@ -57,7 +57,7 @@ round-line-requires c κs =
 
 returns-2 : tie.Need-returns-2
 unfolding roundedSum
-returns-2 c = back w64 _ (c .round-line .ok) ∙ c .round-line .ensures ∙ rw (value (c .before))
+returns-2 c = back w64 _ (c .round-line .ok) ∙ c .round-line .ensures .0 ∙ rw (value (c .before))
 
 pub single-sum-spec : {M : Type 1} → statement M
 single-sum-spec = tie.close (tie.spec returns row-of-requires row-sum-requires round-line-requires returns-2)

@@ -1,0 +1,153 @@
+-- "WHAT COMES BACK" of document 01: each refusal with its place and side, and the order of faults, as one table. The worked cases
+-- (Figures) have few refusals. The table is checked once against the definitions by computation.
+use mathlib.Core.List.{List, [], _∷_, _++_, map}
+use mathlib.Core.Path.{_≡_, refl}
+use Prim.Native.Nat.{ℕ, zero, suc}
+use lib.IntN.{ℤ, pos}
+use Rattle.whole.specs.Sum.{sum}
+use Rattle.rules.specs.declared.Answer.{Answer}
+use Rattle.rules.specs.Sheets.{go, times, among, faultOf, one, kindOf, triangle, weights, body, factor, closed, head}
+use Rattle.rules.specs.Sheets.{reading}
+use Rattle.rules.specs.Factors.{numbers, signsAt, above, entriesBefore, factorAt, factorsFrom, factors, hasEntry, matrix}
+use Rattle.rules.specs.declared.Rule.the-variants.{Nearest}
+use Rattle.rules.specs.Stages.{R, share, ceiling, fill, inside, off, weighed, multiples, putBack, forward, recover, undo}
+use Rattle.rules.specs.Stages.{allow, later, run, runForward, runInverse, runAllowance}
+use Rattle.rules.specs.Shapes.{those, byTurn, turn, order, inRow, stageOf, lineStage, lineStages, jointStages}
+use Rattle.rules.specs.Recipes.{code, value, spell, group, groups, packed, unpack, left}
+use Rattle.rules.specs.Answers.{_or-else_, accepted, refused, checked, further, first, matching, pairChecked}
+use Rattle.rules.specs.Calls.{reply, read, write, line, joint, ranAnswer, ranMemory, runReply, forwardCall, inverseCall}
+use Rattle.rules.specs.Calls.{allowanceCall}
+use Rattle.rules.specs.Figures.{Figure, answer-of, gives, spells, neg, two, found₂, found₄, a, a-bytes, b, d, e}
+
+-- what the check of a sheet answers, and that of a column and a row sheet
+abbrev checks : List ℤ → Answer → Figure
+checks s answer = record { found = answer-of (checked s); printed = answer-of answer }
+
+abbrev pairs : List ℤ → List ℤ → Answer → Figure
+pairs c r answer = record { found = answer-of (pairChecked c r); printed = answer-of answer }
+
+-- a sheet of order 2 of so many factors, and the factors that it may have
+abbrev sheet₂ : ℕ → List ℤ → List ℤ
+sheet₂ n fs = pos 2 ∷ pos n ∷ fs
+
+abbrev permutation : ℤ → ℤ → List ℤ
+permutation p q = pos 1 ∷ p ∷ q ∷ []
+
+abbrev lower : ℤ → ℤ → ℤ → List ℤ
+lower x y z = pos 2 ∷ x ∷ y ∷ z ∷ []
+
+abbrev upper : ℤ → ℤ → ℤ → List ℤ
+upper x y z = pos 3 ∷ x ∷ y ∷ z ∷ []
+
+abbrev single : ℤ → ℤ → ℤ → ℤ → List ℤ
+single r x y z = pos 4 ∷ r ∷ x ∷ y ∷ z ∷ []
+
+-- lower and upper factors by turns, which let allowances grow, and a sheet of ten factors, the last two with entries x and y
+unfoldable turns : ℕ → List ℤ
+turns zero = []
+turns (suc n) = lower (pos 1) (pos 1) (pos 16366) ++ upper (pos 1) (pos 1) (pos 16366) ++ turns n
+
+abbrev growing : ℤ → ℤ → List ℤ
+growing x y = sheet₂ 10 (turns 4 ++ lower (pos 1) (pos 1) x ++ upper (pos 1) (pos 1) y)
+
+pub table : List Figure
+table =
+    -- 1: "sheet ends where a number is needed", at "its length"
+    checks [] (refused 1 0 0)
+    ∷ checks (pos 2 ∷ []) (refused 1 0 1)
+    ∷ checks (sheet₂ 1 []) (refused 1 0 2)
+    ∷ checks (sheet₂ 1 (pos 2 ∷ pos 1 ∷ pos 1 ∷ [])) (refused 1 0 5)
+    ∷ checks (sheet₂ 1 (pos 4 ∷ pos 1 ∷ pos 1 ∷ pos 1 ∷ [])) (refused 1 0 6)
+    ∷ checks (sheet₂ 2 (lower (pos 1) (pos 1) (pos 2048))) (refused 1 0 6)
+    -- 2: "n not 1..16", at 0; "the first fault answers", so the sheet 0 is 2 and not 1, and 2 comes before 3
+    ∷ checks (pos 0 ∷ []) (refused 2 0 0)
+    ∷ checks (pos 17 ∷ pos 0 ∷ []) (refused 2 0 0)
+    ∷ checks (neg 2 ∷ pos 1 ∷ []) (refused 2 0 0)
+    -- 3: "K not 1..32", at 1; 16 and 32 are still accepted
+    ∷ checks (sheet₂ 0 []) (refused 3 0 1)
+    ∷ checks (pos 16 ∷ pos 33 ∷ []) (refused 3 0 1)
+    ∷ checks (pos 2 ∷ neg 1 ∷ []) (refused 3 0 1)
+    ∷ checks (pos 16 ∷ pos 32 ∷ []) (refused 1 0 2)
+    -- 4: "kind not 1..4", at its index, also of a later factor
+    ∷ checks (sheet₂ 1 (pos 0 ∷ [])) (refused 4 0 2)
+    ∷ checks (sheet₂ 1 (pos 5 ∷ [])) (refused 4 0 2)
+    ∷ checks (sheet₂ 2 (lower (pos 1) (pos 1) (pos 2048) ++ (neg 2 ∷ []))) (refused 4 0 6)
+    ∷ checks (sheet₂ 2 (single (pos 1) (pos 1) (pos 1) (pos 2048) ++ (pos 5 ∷ []))) (refused 4 0 7)
+    -- 5: "permutation place or row not 0..n-1", at its index
+    ∷ checks (sheet₂ 1 (permutation (pos 0) (pos 2))) (refused 5 0 4)
+    ∷ checks (sheet₂ 1 (permutation (neg 1) (pos 0))) (refused 5 0 3)
+    ∷ checks (sheet₂ 1 (single (pos 2) (pos 1) (pos 1) (pos 0))) (refused 5 0 3)
+    -- 6: "place used earlier in that permutation", at its index; a place out of range that stands twice is 5
+    ∷ checks (sheet₂ 1 (permutation (pos 1) (pos 1))) (refused 6 0 4)
+    ∷ checks (sheet₂ 2 (permutation (pos 1) (pos 0) ++ permutation (pos 1) (pos 0))) accepted
+    ∷ checks (sheet₂ 1 (permutation (pos 2) (pos 2))) (refused 5 0 3)
+    ∷ checks (pos 3 ∷ pos 1 ∷ pos 1 ∷ pos 0 ∷ pos 0 ∷ pos 3 ∷ []) (refused 6 0 4)
+    -- 7: "sign not 1 or -1", at its index
+    ∷ checks (sheet₂ 1 (lower (pos 0) (pos 1) (pos 2048))) (refused 7 0 3)
+    ∷ checks (sheet₂ 1 (upper (neg 1) (pos 2) (pos 16385))) (refused 7 0 4)
+    ∷ checks (sheet₂ 1 (single (pos 1) (pos 1) (neg 2) (pos 2048))) (refused 7 0 5)
+    -- 8: "entry beyond 16384", at its index; 16384 and -16384 are accepted
+    ∷ checks (sheet₂ 1 (lower (pos 1) (pos 1) (pos 16385))) (refused 8 0 5)
+    ∷ checks (sheet₂ 1 (upper (pos 1) (pos 1) (neg 16385))) (refused 8 0 5)
+    ∷ checks (sheet₂ 1 (single (pos 1) (pos 1) (pos 1) (pos 16385))) (refused 8 0 6)
+    ∷ checks (sheet₂ 2 (lower (pos 1) (pos 1) (pos 16384) ++ upper (pos 1) (pos 1) (neg 16384))) accepted
+    -- 9: "numbers after the last factor", at the "first of them"
+    ∷ checks (a ++ (pos 0 ∷ pos 0 ∷ [])) (refused 9 0 6)
+    ∷ checks (sheet₂ 1 (permutation (pos 1) (pos 0) ++ (pos 1 ∷ []))) (refused 9 0 5)
+    -- "Side is 1 for the row sheet of a pair"
+    ∷ pairs a [] (refused 1 1 0)
+    ∷ pairs a (sheet₂ 1 (lower (pos 1) (pos 0) (pos 2048))) (refused 7 1 4)
+    -- "Order: column sheet, row sheet, 12": here the row sheet's fault has the smaller number, or the kinds differ
+    ∷ pairs (a ++ (pos 0 ∷ [])) [] (refused 9 0 6)
+    ∷ pairs a (sheet₂ 1 (upper (pos 1) (pos 1) (pos 16385))) (refused 8 1 5)
+    -- 12: "first position whose kinds differ, else the smaller count"
+    ∷ pairs a (sheet₂ 1 (upper (pos 1) (pos 1) (pos 2048))) (refused 12 0 0)
+    ∷ pairs b (sheet₂ 2 (turns 1)) accepted
+    ∷ pairs b (sheet₂ 2 (lower (pos 1) (pos 1) (pos 0) ++ lower (pos 1) (pos 1) (pos 0))) (refused 12 0 1)
+    ∷ pairs a b (refused 12 0 1)
+    ∷ pairs (growing (pos 0) (pos 0)) b (refused 12 0 2)
+    -- kinds differ and counts too: the position comes first
+    ∷ pairs b (sheet₂ 1 (upper (pos 1) (pos 1) (pos 2048))) (refused 12 0 0)
+    -- "orders and single rows may differ"
+    ∷ pairs d (sheet₂ 1 (single (pos 0) (pos 1) (pos 1) (pos 2048))) accepted
+    -- a run: 1 to 9, then "12, 10 for the input, 10 for the output, then 11 or 13"; "Side is 1 .. for the output of 10"
+    ∷ gives (forwardCall Nearest (line (sheet₂ 0 [])) [] found₂) (refused 3 0 1) found₂
+    ∷ gives (forwardCall Nearest (joint a (sheet₂ 1 (upper (pos 1) (pos 1) (pos 2048)))) [] found₄) (refused 12 0 0) found₄
+    ∷ gives (forwardCall Nearest (line a) [] []) (refused 10 0 0) []
+    ∷ gives (forwardCall Nearest (line a) (two (pos 16777216) (pos 0)) []) (refused 10 1 0) []
+    ∷ gives (forwardCall Nearest (line a) (pos 16777216 ∷ []) found₂) (refused 10 0 0) found₂
+    ∷ gives (forwardCall Nearest (joint a a) (two (pos 1) (pos 1)) found₄) (refused 10 0 0) found₄
+    -- 11 of an inverse run: the "stage" counts the factors undone, the last factor first
+    ∷ gives (inverseCall Nearest (line e) (two (pos 16777215) (neg 1)) found₂) (refused 11 0 1) found₂
+    ∷ gives
+    (inverseCall Nearest (line (sheet₂ 2 (lower (pos 1) (pos 1) (pos 4096) ++ permutation (pos 0) (pos 1))))
+    (two (pos 16777215) (neg 1)) found₂)
+    (refused 11 0 2) found₂
+    -- 13: "allowance above its limit at some element", at the "first stage"; one of 67108863 is accepted, 67108864 is refused
+    ∷ gives (allowanceCall Nearest (line (growing (pos 1768) (pos 533))) found₂) accepted (two (pos 67108863) (pos 41240528))
+    ∷ gives (allowanceCall Nearest (line (growing (pos 1996) (pos 492))) found₂) (refused 13 0 10) found₂
+    ∷ gives (allowanceCall Nearest (line (growing (pos 16384) (pos 16384))) found₂) (refused 13 0 9) found₂
+    -- 10, of the output, before it
+    ∷ gives (allowanceCall Nearest (line (growing (pos 16384) (pos 16384))) []) (refused 10 1 0) []
+    -- 14: "number cut, too long or not shortest", at "its first byte"
+    ∷ gives (read (0x04 ∷ 0x80 ∷ []) found₂) (refused 14 0 1) found₂
+    ∷ gives (read (0x80 ∷ 0x80 ∷ 0x80 ∷ 0x01 ∷ []) found₂) (refused 14 0 0) found₂
+    ∷ gives (read (0x80 ∷ 0x01 ∷ 0x80 ∷ 0x80 ∷ 0x00 ∷ []) found₂) (refused 14 0 2) found₂
+    -- "The reader answers 14 for the whole byte string first, then 1 to 9, then 15": 14 with 2 and with 9, 2 and 1 with no room
+    ∷ gives (read (0x00 ∷ 0x84 ∷ 0x00 ∷ []) found₂) (refused 14 0 1) found₂
+    ∷ gives (read (a-bytes ++ (0x80 ∷ [])) []) (refused 14 0 7) []
+    ∷ gives (read (0x00 ∷ []) []) (refused 2 0 0) []
+    ∷ gives (read [] found₂) (refused 1 0 0) found₂
+    -- "the writer 1 to 9, then 15", at "the count needed"
+    ∷ spells (write (a ++ (pos 0 ∷ [])) []) (refused 9 0 6) []
+    ∷ spells (write a (1 ∷ 1 ∷ [])) (refused 15 0 7) (1 ∷ 1 ∷ [])
+    ∷ []
+
+-- every case answers what document 01 says
+pub refusals : map (λ (f : Figure). f .found) table ≡ map (λ (f : Figure). f .printed) table
+unfolding table turns sum go times among faultOf one kindOf triangle weights body factor closed head reading numbers signsAt above
+    entriesBefore factorAt factorsFrom factors hasEntry matrix R share ceiling fill inside off weighed multiples putBack forward
+    recover undo allow later run runForward runInverse runAllowance those byTurn turn order inRow stageOf lineStage lineStages
+    jointStages code value spell group groups packed unpack left _or-else_ further first matching pairChecked reply read write
+    line joint ranAnswer ranMemory runReply forwardCall inverseCall allowanceCall
+refusals = refl
