@@ -2,25 +2,28 @@
 -- no hypothesis but that the calls are accepted; refused calls leave memory alone; a reply leaves one answer. Assumes nothing.
 use mathlib.Core.List.{List}
 use mathlib.Core.Path.{_≡_, sym, ap, _∙_}
-use Prim.Native.Nat.{ℕ, _*_, _^_, _<_}
+use Prim.Native.Nat.{ℕ, _+_, _*_, _^_, _<_}
 use native.Mathlib.Omega.{arith}
 use borrow.Author.Tests.{ne-eqb}
 use lib.IntN.{ℤ, pos, natAbs, _-ℤ_, _*ℤ_}
 use lib.ListN.{length}
 use lib.Signed.{_≤ℤ_}
+use Rattle.whole.specs.Sum.{sum}
 use Rattle.rules.specs.declared.Answer.{Answer}
 use Rattle.rules.specs.Numbers.{unit, unit², at, count}
 use Rattle.rules.specs.Factors.{factors}
 use Rattle.rules.specs.declared.Rule.{Rule}
 use Rattle.rules.specs.Stages.{exactProduct, exactScale}
-use Rattle.rules.specs.Answers.{accepted, pairChecked}
+use Rattle.rules.specs.Matrices.{product}
+use Rattle.rules.specs.Answers.{accepted, checked, pairChecked}
 use Rattle.rules.specs.Calls.{Reply, Gives, reply, read, write, writeTable, Plan, line, joint, runReply, forwardCall, inverseCall}
 use Rattle.rules.specs.Calls.{allowanceCall}
 use Rattle.rules.specs.Laws.Runs.{there-and-back, back-and-there}
 use Rattle.rules.specs.Laws.AllowanceLaw as Near
 use Rattle.rules.specs.Laws.Cuts.{lines-scale, joints-scale}
-use Rattle.laws.specs.Accepted.{pair-read}
-use Rattle.laws.specs.Sound.{factors-length, counts-agree}
+use Rattle.rules.specs.Laws.ExactProducts.{exact-of-line, exact-of-joint}
+use Rattle.laws.specs.Accepted.{accepted-read, pair-read}
+use Rattle.laws.specs.Sound.{sheet-sound, sheets-match, factors-length, counts-agree}
 use Rattle.laws.specs.Plans.{GoodPlan, line-plan, joint-plan, forward-length, inverse-length, forward-gives, inverse-gives}
 use Rattle.laws.specs.Plans.{allowance-gives}
 
@@ -89,6 +92,22 @@ line-promises rule s = promised rule (line-plan s)
 
 pub joint-promises : (rule : Rule) (c r : List ℤ) → Promises rule (joint c r)
 joint-promises rule c r = promised rule (joint-plan c r)
+
+-- "Exact products": E is the product of the factors' matrices, and in two dimensions "A·X·B-transposed"
+pub line-product : (s : List ℤ) → checked s .number ≡ 0 → (x : List ℤ) → length x ≡ count s 0 → (m : ℕ) → m < count s 0 →
+    at (E (line s) x) m ≡ sum (count s 0) (λ k. product (count s 0) (factors s) m k *ℤ at x k)
+unfolding line
+line-product s h x long m l = exact-of-line (sheet-sound (accepted-read s h)) x (omega arith) m l
+
+pub joint-product : (c r : List ℤ) → pairChecked c r .number ≡ 0 → (x : List ℤ) → length x ≡ count c 0 * count r 0 →
+    (i j : ℕ) → i < count c 0 → j < count r 0 →
+    at (E (joint c r) x) (i * count r 0 + j) ≡
+    sum (count c 0) (λ l. sum (count r 0) (λ k.
+    (product (count c 0) (factors c) i l *ℤ product (count r 0) (factors r) j k) *ℤ at x (l * count r 0 + k)))
+unfolding joint
+joint-product c r h x long i j a b =
+    let p = pair-read c r h in
+    exact-of-joint (sheets-match (p .0) (p .1) (p .2)) x (omega arith) i j a b
 
 -- "D = 4096^K or 4096^(2K)"
 pub line-scale : (s : List ℤ) → D (line s) ≡ unit ^ count s 1

@@ -9,5 +9,6 @@ pub mod RecoveryOrder
 pub mod Pigeon
 pub mod Rectangles
 pub mod Kinds
+pub mod ExactProducts
 pub mod Cuts
 pub mod Padding

@@ -3,6 +3,7 @@ pub mod Sheets
 pub mod Factors
 pub mod Stages
 pub mod Shapes
+pub mod Matrices
 pub mod Recipes
 pub mod Answers
 pub mod Calls

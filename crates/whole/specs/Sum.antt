@@ -29,6 +29,11 @@ unfolding sum
 sum-scale zero c f = simp lia (omega arith)
 sum-scale (suc n) c f = rw (sum-scale n c f) (simp lia (omega arith))
 
+pub sum-scaled : (n : ℕ) (c : ℤ) (f : ℕ → ℤ) → sum n (λ i. f i *ℤ c) ≡ sum n f *ℤ c
+unfolding sum
+sum-scaled zero c f = simp lia (omega arith)
+sum-scaled (suc n) c f = rw (sum-scaled n c f) (simp lia (omega arith))
+
 pub sum-none : (n : ℕ) (f : ℕ → ℤ) → ((i : ℕ) → i < n → f i ≡ pos 0) → sum n f ≡ pos 0
 unfolding sum
 sum-none zero f h = refl

@@ -88,7 +88,7 @@ sum-multiple S (suc n) u v h = go (sum-multiple S n u v) (eqb (natAbs (u n) % S)
     go ih false e t = absurd (true-false t refl)
 
 -- ---- the exact product
-length-exact : (N : ℕ) (s : Stage) (v : List ℤ) → length (exact N s v) ≡ length v
+pub length-exact : (N : ℕ) (s : Stage) (v : List ℤ) → length (exact N s v) ≡ length v
 unfolding exact
 length-exact N (move S p) v = length-fill N _ v
 length-exact N (weigh S d w o) v = length-fill N _ v
