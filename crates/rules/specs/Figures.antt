@@ -151,6 +151,7 @@ table =
     (pos 50 ∷ pos 50 ∷ pos 50 ∷ pos 50 ∷ pos 9 ∷ pos 9 ∷ pos 9 ∷ pos 9 ∷ pos 65 ∷ pos 28 ∷ neg 28 ∷ neg 65 ∷ []) (0 ∷ 11 ∷ 0 ∷ [])
     ∷ strips [] [] [] accepted [] []
     ∷ strips (nines 3) (nines 3) [] (refused 10 0 0) (nines 3) []
+    ∷ strips (nines 3) (nines 4) [] (refused 10 0 0) (nines 4) []
     ∷ strips (nines 4) (nines 4) [] (refused 10 1 0) (nines 4) []
     -- h: "entry 16384 is bytes 80 80 02; bytes 84 00 are refused 14"
     ∷ record { found = bytes (written (pos 16384)); printed = bytes (0x80 ∷ 0x80 ∷ 0x02 ∷ []) }
