@@ -1,7 +1,7 @@
 // One number and its bytes: at most three groups of seven bits, low group first.
 ghost use mathlib.Core.Bool.{true};
 ghost use mathlib.Core.Path.{_≡_};
-ghost use Prim.Native.Nat.{_+_, _-_, _≤_, _<_};
+ghost use Prim.Native.Nat.{_+_, _-_, _*_, _≤_, _<_};
 ghost use lib.IntN.{pos, natAbs};
 ghost use lib.ListN.{length, drop};
 ghost use lib.Seq.{sets};
@@ -20,7 +20,7 @@ fn none() -> Spelt
 
 // A group before what the next groups spell: no number, if they spell none.
 fn ahead(g: u32, next: Spelt) -> Spelt
-    requires { ⌜ (g < 128) × Small 2 16384 next ⌝ }
+    requires { ⌜ (g < 128) × Small 2 (128 * 128) next ⌝ }
     ensures { λ r. ⌜ r ≡ ahead g next ⌝ }
 {
     if next.size == 0 {
@@ -28,21 +28,21 @@ fn ahead(g: u32, next: Spelt) -> Spelt
     }
     Spelt {
         size: next.size + 1,
-        code: g + 128 * next.code,
+        code: g + Spelt::GROUP * next.code,
     }
 }
 
 // The group at i before what the next groups spell. The last group is 0 only if it stands alone.
 fn group(bytes: &[u8], i: usize, alone: bool, next: Spelt) -> Spelt
-    requires { ⌜ Small 2 16384 next ⌝ }
+    requires { ⌜ Small 2 (128 * 128) next ⌝ }
     ensures { λ r. ⌜ r ≡ group alone (drop i (now (bytes .entry))) next ⌝ }
 {
     if i >= bytes.len() {
         return none();
     }
     let x = bytes[i] as u32;
-    if x >= 128 {
-        return ahead(x % 128, next);
+    if x >= Spelt::GROUP {
+        return ahead(x % Spelt::GROUP, next);
     }
     if x != 0 {
         return Spelt { size: 1, code: x };
@@ -98,10 +98,10 @@ pub fn code_of(v: i32) -> u32
 pub fn code_size(u: u32) -> usize
     ensures { λ r. ⌜ r ≡ length (spell 2 u) ⌝ }
 {
-    if u < 128 {
+    if u < Spelt::GROUP {
         return 1;
     }
-    if u < 16384 {
+    if u < Spelt::TWO_GROUPS {
         return 2;
     }
     3
@@ -112,17 +112,17 @@ pub fn write_code(out: &mut [u8], i: usize, u: u32) -> usize
     requires { ⌜ (u < codes) × (i + length (spell 2 u) ≤ length (now out)) ⌝ }
     ensures { λ r. ⌜ (r ≡ i + length (spell 2 u)) × (now (out .exit) ≡ sets (now (out .entry)) i (spell 2 u)) ⌝ }
 {
-    if u < 128 {
+    if u < Spelt::GROUP {
         out[i] = u as u8;
         return i + 1;
     }
-    out[i] = (128 + u % 128) as u8;
-    let w = u / 128;
-    if w < 128 {
+    out[i] = (Spelt::GROUP + u % Spelt::GROUP) as u8;
+    let w = u / Spelt::GROUP;
+    if w < Spelt::GROUP {
         out[i + 1] = w as u8;
         return i + 2;
     }
-    out[i + 1] = (128 + w % 128) as u8;
-    out[i + 2] = (w / 128) as u8;
+    out[i + 1] = (Spelt::GROUP + w % Spelt::GROUP) as u8;
+    out[i + 2] = (w / Spelt::GROUP) as u8;
     i + 3
 }

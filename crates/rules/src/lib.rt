@@ -110,6 +110,13 @@ pub struct Spelt {
     pub code: u32,
 }
 
+impl Spelt {
+    // A group has seven bits. A code below this has one group, one below the next has two.
+    pub const GROUP: u32 = 128;
+
+    pub const TWO_GROUPS: u32 = Self::GROUP * Self::GROUP;
+}
+
 // What each call answers.
 #[repr(C)]
 pub struct Answer {

@@ -3,7 +3,7 @@ ghost use mathlib.Core.Path.{_≡_};
 ghost use Prim.Native.Nat.{_≤_};
 ghost use lib.ListN.{length};
 ghost use Rattle.rules.specs.Recipes.{numbersOf};
-ghost use Rattle.printing.specs.Program.{afterwards, ran, printed};
+ghost use Rattle.printing.specs.Program.{limit, afterwards, ran, printed};
 ghost use Rattle.session.specs.Inputs.{sessionOf};
 ghost use Rattle.printing.specs.Writing.{Wrote};
 use input::block_at;
@@ -21,7 +21,7 @@ pub const LIMIT: usize = 16384;
 
 // Room for the numbers. A call's result keeps its zeros out of the proofs.
 fn blank() -> [i32; LIMIT]
-    ensures { λ r. ⌜ 16384 ≡ length r ⌝ }
+    ensures { λ r. ⌜ limit ≡ length r ⌝ }
 {
     [0; LIMIT]
 }
@@ -66,7 +66,7 @@ fn put_session(v: &[i32], y: &mut [i32], z: &mut [i32], out: &mut [u8]) -> usize
 
 // The text for bytes that spell m numbers, and nothing more.
 fn put_decoded(input: &[u8], m: usize, out: &mut [u8]) -> usize
-    requires { ⌜ (m ≡ length (numbersOf (now input))) × (m ≤ 16384) ⌝ }
+    requires { ⌜ (m ≡ length (numbersOf (now input))) × (m ≤ limit) ⌝ }
     ensures { λ r. ⌜ Wrote (now (out .entry)) 0 (sessionOf (numbersOf (now (input .entry)))) (now (out .exit)) r ⌝ }
 {
     let mut v = blank();

@@ -1,11 +1,22 @@
 -- A pair of permutations and a pair of factors with weights are each the document's stage (`moves-are`, `stage-weighed`).
 use borrow.Author.Needs.{needs}
+use mathlib.Core.Bool.{Bool, false}
+use mathlib.Core.List.{List}
 use mathlib.Core.Path.{_≡_, refl, sym, ap, _∙_}
+use Prim.Native.Nat.{_*_}
+use lib.IntN.{ℤ}
 use lib.ListN.{length}
+use Rattle.rules.specs.declared.Kind.{Kind}
+use Rattle.rules.specs.Factors.{factorAt}
+use Rattle.rules.specs.Shapes.{jointStage}
+use Rattle.factor.specs.declared.Layout.{Layout}
+use Rattle.factor.specs.declared.run.Task.{Task}
+use Rattle.factor.specs.Tasks.{limitOf, takenBy}
 use Rattle.factor.specs.Layouts.{layoutBy, layoutAt, isMove}
-use Rattle.factor.specs.Steps.{step-moves}
+use Rattle.factor.specs.Steps.{Step, step-moves}
 use Rattle.factor.specs.MovedInPlace.{moved-bounded, moved-scattered, length-scattered}
 use Rattle.factor.specs.LayoutInSheet.{moves}
+use Rattle.rectanglerun.specs.RowsInTurn.{Weighable, Weighed}
 use Rattle.rectanglerun.specs.StagesAgree.{moves-are, stage-asks, stage-weighed}
 use Rattle.rectanglerun.proofs.stages.run_stage.Statement.{statement}
 use Rattle.rectanglerun.proofs.stages.run_stage.Tie as tie
@@ -16,6 +27,33 @@ layout-at-requires c κs = search needs
 layout-at-requires-2 : tie.Need-layout-at-requires-2
 layout-at-requires-2 c κs = search needs
 
+-- what the rows of a pair with weights ask, and that they are the stage
+module _ (l : tie.After-layout-at2) {kind : Kind} (k : l .layout-at2 .result .kind ≡ kind) (m : isMove kind ≡ false) {task : Task}
+    (t : l .before .before .args .run .task ≡ task) where
+  abbrev s : tie.Start
+  s = l .before .before
+
+  abbrev fa : Layout
+  fa = l .before .layout-at .result
+
+  abbrev fb : Layout
+  fb = l .layout-at2 .result
+
+  asks : Weighable task (s .args .col .now) fa (s .args .row .now) fb (s .args .x .now)
+  asks =
+      stage-asks (s .pre .0) (l .before .layout-at .ensures) (l .layout-at2 .ensures) k m (s .args .run) t (s .pre .1) (s .pre .2)
+
+  told : {ok : Bool} {y : List ℤ} →
+      Weighed task (s .args .run .rule) (s .args .col .now) fa (s .args .row .now) fb (s .args .x .now) ok y →
+      Step (limitOf (s .args .run .task)) (s .args .n1 * s .args .n2)
+      (takenBy (s .args .run) (s .args .n1 * s .args .n2)
+      (jointStage (s .args .n1) (s .args .n2) (factorAt (s .args .col .now) (s .args .n1) (s .args .i))
+      (factorAt (s .args .row .now) (s .args .n2) (s .args .j))) (s .args .x .now)) ok y
+      × (length y ≡ 256)
+  told w =
+      stage-weighed (s .pre .0) (l .before .layout-at .ensures) (l .layout-at2 .ensures) k m (s .args .run) t (s .pre .1) (s .pre .2)
+      w
+
 enum-told : tie.Need-enum-told
 enum-told c = search needs
 
@@ -24,73 +62,39 @@ enum-told-2 c = search needs
 
 apply-lower-rows-requires : tie.Need-apply-lower-rows-requires
 unfolding isMove
-apply-lower-rows-requires c κs =
-    let t = c .before in
-    let k = t .before .before in
-    let l = k .before .before in
-    let s = l .before .before in (
-      stage-asks (s .pre .0) (l .before .layout-at .ensures) (l .layout-at2 .ensures) (k .enum-told .given .1) refl (s .args .run)
-          (t .enum-told2 .given .1) (s .pre .1) (s .pre .2),
-      k .enum-told .given .1,
-    )
+apply-lower-rows-requires c κs = let t = c .before in let k = t .before .before in (asks (k .before .before) (k .enum-told .given .1) refl (t .enum-told2 .given .1), k .enum-told .given .1)
 
 returns : tie.Need-returns
 unfolding isMove
 returns c =
     let t = c .before .before in
-    let k = t .before .before in
-    let l = k .before .before in
-    let s = l .before .before in
-    stage-weighed (s .pre .0) (l .before .layout-at .ensures) (l .layout-at2 .ensures) (k .enum-told .given .1) refl (s .args .run)
-    (t .enum-told2 .given .1) (s .pre .1) (s .pre .2) (c .apply-lower-rows .ensures)
+    let k = t .before .before in told (k .before .before) (k .enum-told .given .1) refl (t .enum-told2 .given .1) (c .apply-lower-rows .ensures)
 
 enum-told-3 : tie.Need-enum-told-3
 enum-told-3 c = search needs
 
 undo-lower-rows-requires : tie.Need-undo-lower-rows-requires
 unfolding isMove
-undo-lower-rows-requires c κs =
-    let t = c .before in
-    let k = t .before .before in
-    let l = k .before .before in
-    let s = l .before .before in (
-      stage-asks (s .pre .0) (l .before .layout-at .ensures) (l .layout-at2 .ensures) (k .enum-told .given .1) refl (s .args .run)
-          (t .enum-told3 .given .1) (s .pre .1) (s .pre .2),
-      k .enum-told .given .1,
-    )
+undo-lower-rows-requires c κs = let t = c .before in let k = t .before .before in (asks (k .before .before) (k .enum-told .given .1) refl (t .enum-told3 .given .1), k .enum-told .given .1)
 
 returns-2 : tie.Need-returns-2
 unfolding isMove
 returns-2 c =
     let t = c .before .before in
-    let k = t .before .before in
-    let l = k .before .before in
-    let s = l .before .before in
-    stage-weighed (s .pre .0) (l .before .layout-at .ensures) (l .layout-at2 .ensures) (k .enum-told .given .1) refl (s .args .run)
-    (t .enum-told3 .given .1) (s .pre .1) (s .pre .2) (c .undo-lower-rows .ensures)
+    let k = t .before .before in told (k .before .before) (k .enum-told .given .1) refl (t .enum-told3 .given .1) (c .undo-lower-rows .ensures)
 
 enum-told-4 : tie.Need-enum-told-4
 enum-told-4 c = search needs
 
 allow-rows-requires : tie.Need-allow-rows-requires
 unfolding isMove
-allow-rows-requires c κs =
-    let t = c .before in
-    let k = t .before .before in
-    let l = k .before .before in
-    let s = l .before .before in
-    stage-asks (s .pre .0) (l .before .layout-at .ensures) (l .layout-at2 .ensures) (k .enum-told .given .1) refl (s .args .run)
-    (t .enum-told4 .given .1) (s .pre .1) (s .pre .2)
+allow-rows-requires c κs = let t = c .before in let k = t .before .before in asks (k .before .before) (k .enum-told .given .1) refl (t .enum-told4 .given .1)
 
 returns-3 : tie.Need-returns-3
 unfolding isMove
 returns-3 c =
     let t = c .before .before in
-    let k = t .before .before in
-    let l = k .before .before in
-    let s = l .before .before in
-    stage-weighed (s .pre .0) (l .before .layout-at .ensures) (l .layout-at2 .ensures) (k .enum-told .given .1) refl (s .args .run)
-    (t .enum-told4 .given .1) (s .pre .1) (s .pre .2) (c .allow-rows .ensures)
+    let k = t .before .before in told (k .before .before) (k .enum-told .given .1) refl (t .enum-told4 .given .1) (c .allow-rows .ensures)
 
 enum-told-5 : tie.Need-enum-told-5
 enum-told-5 c = search needs
@@ -100,73 +104,39 @@ enum-told-6 c = search needs
 
 apply-upper-rows-requires : tie.Need-apply-upper-rows-requires
 unfolding isMove
-apply-upper-rows-requires c κs =
-    let t = c .before in
-    let k = t .before .before in
-    let l = k .before .before in
-    let s = l .before .before in (
-      stage-asks (s .pre .0) (l .before .layout-at .ensures) (l .layout-at2 .ensures) (k .enum-told5 .given .1) refl (s .args .run)
-          (t .enum-told6 .given .1) (s .pre .1) (s .pre .2),
-      k .enum-told5 .given .1,
-    )
+apply-upper-rows-requires c κs = let t = c .before in let k = t .before .before in (asks (k .before .before) (k .enum-told5 .given .1) refl (t .enum-told6 .given .1), k .enum-told5 .given .1)
 
 returns-4 : tie.Need-returns-4
 unfolding isMove
 returns-4 c =
     let t = c .before .before in
-    let k = t .before .before in
-    let l = k .before .before in
-    let s = l .before .before in
-    stage-weighed (s .pre .0) (l .before .layout-at .ensures) (l .layout-at2 .ensures) (k .enum-told5 .given .1) refl (s .args .run)
-    (t .enum-told6 .given .1) (s .pre .1) (s .pre .2) (c .apply-upper-rows .ensures)
+    let k = t .before .before in told (k .before .before) (k .enum-told5 .given .1) refl (t .enum-told6 .given .1) (c .apply-upper-rows .ensures)
 
 enum-told-7 : tie.Need-enum-told-7
 enum-told-7 c = search needs
 
 undo-upper-rows-requires : tie.Need-undo-upper-rows-requires
 unfolding isMove
-undo-upper-rows-requires c κs =
-    let t = c .before in
-    let k = t .before .before in
-    let l = k .before .before in
-    let s = l .before .before in (
-      stage-asks (s .pre .0) (l .before .layout-at .ensures) (l .layout-at2 .ensures) (k .enum-told5 .given .1) refl (s .args .run)
-          (t .enum-told7 .given .1) (s .pre .1) (s .pre .2),
-      k .enum-told5 .given .1,
-    )
+undo-upper-rows-requires c κs = let t = c .before in let k = t .before .before in (asks (k .before .before) (k .enum-told5 .given .1) refl (t .enum-told7 .given .1), k .enum-told5 .given .1)
 
 returns-5 : tie.Need-returns-5
 unfolding isMove
 returns-5 c =
     let t = c .before .before in
-    let k = t .before .before in
-    let l = k .before .before in
-    let s = l .before .before in
-    stage-weighed (s .pre .0) (l .before .layout-at .ensures) (l .layout-at2 .ensures) (k .enum-told5 .given .1) refl (s .args .run)
-    (t .enum-told7 .given .1) (s .pre .1) (s .pre .2) (c .undo-upper-rows .ensures)
+    let k = t .before .before in told (k .before .before) (k .enum-told5 .given .1) refl (t .enum-told7 .given .1) (c .undo-upper-rows .ensures)
 
 enum-told-8 : tie.Need-enum-told-8
 enum-told-8 c = search needs
 
 allow-rows-requires-2 : tie.Need-allow-rows-requires-2
 unfolding isMove
-allow-rows-requires-2 c κs =
-    let t = c .before in
-    let k = t .before .before in
-    let l = k .before .before in
-    let s = l .before .before in
-    stage-asks (s .pre .0) (l .before .layout-at .ensures) (l .layout-at2 .ensures) (k .enum-told5 .given .1) refl (s .args .run)
-    (t .enum-told8 .given .1) (s .pre .1) (s .pre .2)
+allow-rows-requires-2 c κs = let t = c .before in let k = t .before .before in asks (k .before .before) (k .enum-told5 .given .1) refl (t .enum-told8 .given .1)
 
 returns-6 : tie.Need-returns-6
 unfolding isMove
 returns-6 c =
     let t = c .before .before in
-    let k = t .before .before in
-    let l = k .before .before in
-    let s = l .before .before in
-    stage-weighed (s .pre .0) (l .before .layout-at .ensures) (l .layout-at2 .ensures) (k .enum-told5 .given .1) refl (s .args .run)
-    (t .enum-told8 .given .1) (s .pre .1) (s .pre .2) (c .allow-rows2 .ensures)
+    let k = t .before .before in told (k .before .before) (k .enum-told5 .given .1) refl (t .enum-told8 .given .1) (c .allow-rows2 .ensures)
 
 enum-told-9 : tie.Need-enum-told-9
 enum-told-9 c = search needs
@@ -176,73 +146,39 @@ enum-told-10 c = search needs
 
 apply-single-rows-requires : tie.Need-apply-single-rows-requires
 unfolding isMove
-apply-single-rows-requires c κs =
-    let t = c .before in
-    let k = t .before .before in
-    let l = k .before .before in
-    let s = l .before .before in (
-      stage-asks (s .pre .0) (l .before .layout-at .ensures) (l .layout-at2 .ensures) (k .enum-told9 .given .1) refl (s .args .run)
-          (t .enum-told10 .given .1) (s .pre .1) (s .pre .2),
-      k .enum-told9 .given .1,
-    )
+apply-single-rows-requires c κs = let t = c .before in let k = t .before .before in (asks (k .before .before) (k .enum-told9 .given .1) refl (t .enum-told10 .given .1), k .enum-told9 .given .1)
 
 returns-7 : tie.Need-returns-7
 unfolding isMove
 returns-7 c =
     let t = c .before .before in
-    let k = t .before .before in
-    let l = k .before .before in
-    let s = l .before .before in
-    stage-weighed (s .pre .0) (l .before .layout-at .ensures) (l .layout-at2 .ensures) (k .enum-told9 .given .1) refl (s .args .run)
-    (t .enum-told10 .given .1) (s .pre .1) (s .pre .2) (c .apply-single-rows .ensures)
+    let k = t .before .before in told (k .before .before) (k .enum-told9 .given .1) refl (t .enum-told10 .given .1) (c .apply-single-rows .ensures)
 
 enum-told-11 : tie.Need-enum-told-11
 enum-told-11 c = search needs
 
 undo-single-rows-requires : tie.Need-undo-single-rows-requires
 unfolding isMove
-undo-single-rows-requires c κs =
-    let t = c .before in
-    let k = t .before .before in
-    let l = k .before .before in
-    let s = l .before .before in (
-      stage-asks (s .pre .0) (l .before .layout-at .ensures) (l .layout-at2 .ensures) (k .enum-told9 .given .1) refl (s .args .run)
-          (t .enum-told11 .given .1) (s .pre .1) (s .pre .2),
-      k .enum-told9 .given .1,
-    )
+undo-single-rows-requires c κs = let t = c .before in let k = t .before .before in (asks (k .before .before) (k .enum-told9 .given .1) refl (t .enum-told11 .given .1), k .enum-told9 .given .1)
 
 returns-8 : tie.Need-returns-8
 unfolding isMove
 returns-8 c =
     let t = c .before .before in
-    let k = t .before .before in
-    let l = k .before .before in
-    let s = l .before .before in
-    stage-weighed (s .pre .0) (l .before .layout-at .ensures) (l .layout-at2 .ensures) (k .enum-told9 .given .1) refl (s .args .run)
-    (t .enum-told11 .given .1) (s .pre .1) (s .pre .2) (c .undo-single-rows .ensures)
+    let k = t .before .before in told (k .before .before) (k .enum-told9 .given .1) refl (t .enum-told11 .given .1) (c .undo-single-rows .ensures)
 
 enum-told-12 : tie.Need-enum-told-12
 enum-told-12 c = search needs
 
 allow-rows-requires-3 : tie.Need-allow-rows-requires-3
 unfolding isMove
-allow-rows-requires-3 c κs =
-    let t = c .before in
-    let k = t .before .before in
-    let l = k .before .before in
-    let s = l .before .before in
-    stage-asks (s .pre .0) (l .before .layout-at .ensures) (l .layout-at2 .ensures) (k .enum-told9 .given .1) refl (s .args .run)
-    (t .enum-told12 .given .1) (s .pre .1) (s .pre .2)
+allow-rows-requires-3 c κs = let t = c .before in let k = t .before .before in asks (k .before .before) (k .enum-told9 .given .1) refl (t .enum-told12 .given .1)
 
 returns-9 : tie.Need-returns-9
 unfolding isMove
 returns-9 c =
     let t = c .before .before in
-    let k = t .before .before in
-    let l = k .before .before in
-    let s = l .before .before in
-    stage-weighed (s .pre .0) (l .before .layout-at .ensures) (l .layout-at2 .ensures) (k .enum-told9 .given .1) refl (s .args .run)
-    (t .enum-told12 .given .1) (s .pre .1) (s .pre .2) (c .allow-rows3 .ensures)
+    let k = t .before .before in told (k .before .before) (k .enum-told9 .given .1) refl (t .enum-told12 .given .1) (c .allow-rows3 .ensures)
 
 enum-told-13 : tie.Need-enum-told-13
 enum-told-13 c = search needs
