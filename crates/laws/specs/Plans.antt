@@ -5,7 +5,7 @@ use mathlib.Core.Bool.{Bool}
 use mathlib.Core.List.{List, [], _∷_, reverse}
 use mathlib.Core.Logic.{_↔_}
 use mathlib.Core.Path.{_≡_, refl, sym, ap, _∙_}
-use Prim.Native.Nat.{ℕ, suc, _<_}
+use Prim.Native.Nat.{ℕ, suc}
 use native.Mathlib.Decide.{ℕ-discrete}
 use native.Mathlib.Nat.{mul-pos}
 use native.Mathlib.Omega.{arith}
@@ -18,19 +18,15 @@ use Rattle.rules.specs.Stages.{Stage, forward, undo, allow, Ran, done, beyond, 
 use Rattle.rules.specs.Answers.{accepted, _or-else_}
 use Rattle.rules.specs.Calls.{Gives, reply, Plan, line, joint, sized, ranAnswer, ranMemory, runReply, forwardCall, inverseCall}
 use Rattle.rules.specs.Calls.{allowanceCall}
-use Rattle.rules.specs.Laws.GoodStages.{AllGood}
 use Rattle.rules.specs.Laws.Inverses.{length-forward, length-undo}
 use Rattle.rules.specs.Laws.AllowanceLaw.{length-allow}
 use Rattle.rules.specs.Laws.Runs.{run-through}
 use Rattle.rules.specs.Laws.Kinds.{lines-good, joints-good}
+use Rattle.laws.specs.Stated.Calls.{GoodPlan}
 use Rattle.laws.specs.Accepted.{accepted-order, accepted-read, both-fine, pair-read}
 use Rattle.laws.specs.Sound.{sheet-sound, sheets-match}
 
 -- ---- plans
-pub record GoodPlan (p : Plan) : Type 0 where
-  pub good : p .sheets .number ≡ 0 → AllGood (p .size) (p .stages)
-  pub some : p .sheets .number ≡ 0 → 0 < p .size
-
 pub line-plan : (s : List ℤ) → GoodPlan (line s)
 unfolding line
 line-plan s = record {

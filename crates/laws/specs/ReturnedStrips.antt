@@ -21,10 +21,10 @@ use Rattle.rules.specs.Answers.{accepted}
 use Rattle.rules.specs.Calls.{Reply, Gives, Plan, forwardCall, inverseCall, allowanceCall}
 use Rattle.rules.specs.Strips.{StripReply, GivesStrip, block, blockReply, outputs, bytesOf, stripAnswer, strip, forwardStrip}
 use Rattle.rules.specs.Strips.{inverseStrip}
-use Rattle.laws.specs.CutLaw.{farther, inTwo, CutLaw}
-use Rattle.laws.specs.Plans.{GoodPlan}
-use Rattle.laws.specs.Promises.{E, D, Promises}
-use Rattle.laws.specs.Returned.{Accepts, returned-back, returned-there, returned-near, returned-difference}
+use Rattle.laws.specs.Stated.Strips.{StripGave, changed, StripPromises, BlocksBack, CutBlock}
+use Rattle.laws.specs.Stated.Cuts.{farther, inTwo, CutLaw}
+use Rattle.laws.specs.Stated.Calls.{GoodPlan, E, D, Promises, Accepts}
+use Rattle.laws.specs.Returned.{returned-back, returned-there, returned-near, returned-difference}
 use Rattle.laws.specs.Strips.{BlockCall, forward-block, inverse-block, StripFits, byte-of, bytes-length, output-of}
 use Rattle.laws.specs.Strips.{outputs-length, block-length, block-fits, block-front, strip-fits, strip-accepted}
 use Rattle.laws.specs.Strips.{blocks-accepted, strip-ran, strip-found, strip-answer}
@@ -34,13 +34,6 @@ pub one-strip :
     {a c : Answer} {m n : List ℤ} {bs ds : List ℕ} (q : StripReply) → GivesStrip a m bs q → GivesStrip c n ds q →
     (a ≡ c) × (m ≡ n) × (bs ≡ ds)
 one-strip q g h = (g .0 ∙ sym (h .0), g .1 ∙ sym (h .1), g .2 ∙ sym (h .2))
-
--- a strip's call, lent x, y and b, answered 0 and left m and bs
-pub record StripGave (p : Plan) (call : List ℤ → List ℤ → Reply ℤ) (x y : List ℤ) (b : List ℕ) (m : List ℤ) (bs : List ℕ) : Type
-    0 where
-  pub answer : Answer
-  pub gives : GivesStrip answer m bs (strip p call x y b)
-  pub zero : answer .number ≡ 0
 
 module _ (p : Plan) (call : List ℤ → List ℤ → Reply ℤ) (x y : List ℤ) (b : List ℕ) where
   -- "Refused calls leave lent memory untouched"
@@ -110,10 +103,6 @@ module _ {p : Plan} {call : List ℤ → List ℤ → Reply ℤ} (whole : BlockC
     byte-number = rw (each-block .1) (whole .number _ _ (accepted-fits .sheets) input-block found-block)
 
 -- ---- "Changing one block changes no other block's output or byte"
--- v with u in place of its block j
-abbrev pub changed : ℕ → ℕ → List ℤ → List ℤ → List ℤ
-changed n j u v = take (j * n) v ++ u ++ drop (j * n + n) v
-
 -- another block stays
 other-block : (n j k : ℕ) (u v : List ℤ) → length u ≡ n → j * n + n ≤ length v → k ≢ j → block n k (changed n j u v) ≡ block n k v
 other-block n j k u v l f d = split (decLt k j)
@@ -160,40 +149,6 @@ change-one {p} whole {x} j u i l h g k n d =
     (omega (arith, block-fits j _ (p .size) i, accepted-fits whole h .input)) d) refl
 
 -- ---- request R-1 of any plan and any single call over it
-pub record StripPromises (p : Plan) (call : List ℤ → List ℤ → Reply ℤ) : Type 0 where
-  -- the contract leaves one answer, one output and one byte slice, refusals too
-  pub one :
-      (x y : List ℤ) (b : List ℕ) {a c : Answer} {m n : List ℤ} {bs ds : List ℕ} →
-      GivesStrip a m bs (strip p call x y b) → GivesStrip c n ds (strip p call x y b) → (a ≡ c) × (m ≡ n) × (bs ≡ ds)
-  -- a refused strip leaves output and bytes as found
-  pub refused :
-      (x y : List ℤ) (b : List ℕ) {a : Answer} {m : List ℤ} {bs : List ℕ} →
-      GivesStrip a m bs (strip p call x y b) → (a .number ≡ 0 → ⊥) → (m ≡ y) × (bs ≡ b)
-  -- "else accepted, zero blocks too"
-  pub not-refused :
-      (x y : List ℤ) (b : List ℕ) {a : Answer} {m : List ℤ} {bs : List ℕ} → p .sheets .number ≡ 0 →
-      length x ≡ length b * p .size → length y ≡ length x → GivesStrip a m bs (strip p call x y b) → a ≡ accepted
-  -- "Each block gets its single call's output and, in its byte, the number"
-  pub each :
-      {x y m : List ℤ} {b bs : List ℕ} → StripGave p call x y b m bs → (k : ℕ) → k < length b →
-      (block (p .size) k m ≡ blockReply p call x y k .memory) × (getD bs k 0 ≡ blockReply p call x y k .answer .number)
-  -- nothing stands beside the blocks and their bytes
-  pub long : {x y m : List ℤ} {b bs : List ℕ} → StripGave p call x y b m bs → (length m ≡ length b * p .size)
-      × (length bs ≡ length b)
-  -- "0 or 11"
-  pub number :
-      {x y m : List ℤ} {b bs : List ℕ} → StripGave p call x y b m bs → (k : ℕ) → k < length b →
-      (getD bs k 0 ≡ 0) ⊎ (getD bs k 0 ≡ 11)
-  -- "A block refused for range keeps its part of the output as found"
-  pub kept :
-      {x y m : List ℤ} {b bs : List ℕ} → StripGave p call x y b m bs → (k : ℕ) → k < length b → (getD bs k 0 ≡ 0 → ⊥) →
-      block (p .size) k m ≡ block (p .size) k y
-  -- "Changing one block changes no other block's output or byte"
-  pub others :
-      {x y m m′ : List ℤ} {b bs bs′ : List ℕ} (j : ℕ) (u : List ℤ) → j < length b → length u ≡ p .size →
-      StripGave p call x y b m bs → StripGave p call (changed (p .size) j u x) y b m′ bs′ →
-      (k : ℕ) → k < length b → k ≢ j → (block (p .size) k m′ ≡ block (p .size) k m) × (getD bs′ k 0 ≡ getD bs k 0)
-
 pub strip-promised : {p : Plan} {call : List ℤ → List ℤ → Reply ℤ} → GoodPlan p → BlockCall p call → StripPromises p call
 strip-promised {p} {call} plan whole = record {
   one = λ x y b. one-strip (strip p call x y b);
@@ -226,10 +181,6 @@ same-length :
     {p : Plan} {call : List ℤ → List ℤ → Reply ℤ} (whole : BlockCall p call) {x y m : List ℤ} {b bs : List ℕ} →
     StripGave p call x y b m bs → length m ≡ length x
 same-length whole h = output-long whole h ∙ sym (accepted-fits whole h .input)
-
--- each block of x whose byte in bs is 0 comes back: its byte in ds is 0, and it stands in u
-abbrev pub BlocksBack : (n : ℕ) (x : List ℤ) (bs : List ℕ) (u : List ℤ) (ds : List ℕ) → Type 0
-BlocksBack n x bs u ds = (k : ℕ) → k < length bs → getD bs k 0 ≡ 0 → (getD ds k 0 ≡ 0) × (block n k u ≡ block n k x)
 
 -- a single call that brings back what another took, and so do their strips
 module _
@@ -330,16 +281,6 @@ in-two-memory f first second y e = split (ℕ-discrete (second (first .memory) .
         Dec (second (first .memory) .answer .number ≡ 0) → inTwo f first second y .memory ≡ second (first .memory) .memory
     split (yes d) = rw (eq-eqb _ 0 e, eq-eqb _ 0 d)
     split (no d) = rw (eq-eqb _ 0 e, ne-eqb _ 0 d)
-
--- block k of a strip that left m and bs, and of its two parts, one after the other, the first of which left the bytes bs₁, the
--- second v and bs₂; the whole and the second part found the output y
-pub record CutBlock (n k : ℕ) (y m : List ℤ) (bs bs₁ : List ℕ) (v : List ℤ) (bs₂ : List ℕ) : Type 0 where
-  -- "in a cut, a block refused by the first part to run counts as refused"; else its byte is the second part's
-  pub byte : getD bs k 0 ≡ cond (eqb (getD bs₁ k 0) 0) (getD bs₂ k 0) (getD bs₁ k 0)
-  -- unless the first part refuses it, the second part leaves of it what the whole leaves
-  pub output : getD bs₁ k 0 ≡ 0 → block n k v ≡ block n k m
-  -- if the second part refuses it, its part of the output stays as found
-  pub kept : (getD bs₂ k 0 ≡ 0 → ⊥) → block n k v ≡ block n k y
 
 -- each block, once the parts' strips are known to be accepted
 cut-block :

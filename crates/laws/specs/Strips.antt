@@ -20,7 +20,8 @@ use Rattle.rules.specs.Strips.{StripReply, block, inBlocks, blockReply, outputs
 use Rattle.laws.specs.Accepted.{both-fine}
 use Rattle.laws.specs.Plans.{run-ready, sized-fine, sized-is, forward-length, inverse-length, forward-gives, inverse-gives}
 use Rattle.laws.specs.Plans.{forward-accepted, inverse-accepted}
-use Rattle.laws.specs.Promises.{Keeps, forward-keeps, inverse-keeps}
+use Rattle.laws.specs.Stated.Calls.{Keeps}
+use Rattle.laws.specs.Promises.{forward-keeps, inverse-keeps}
 
 -- ---- single calls, and what a strip over a plan asks of them
 pub record BlockCall (p : Plan) (call : List ℤ → List ℤ → Reply ℤ) : Type 0 where

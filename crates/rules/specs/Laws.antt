@@ -1,4 +1,4 @@
-pub mod GoodStages
+pub mod SoundFactors
 pub mod Rounding
 pub mod Membership
 pub mod Lists
@@ -11,3 +11,4 @@ pub mod Rectangles
 pub mod Kinds
 pub mod Cuts
 pub mod Padding
+pub mod CosineClose

@@ -7,6 +7,7 @@ pub mod Recipes
 pub mod Answers
 pub mod Calls
 pub mod Strips
+pub mod GoodStages
 pub mod Figures
 pub mod Cosine
 pub mod Laws

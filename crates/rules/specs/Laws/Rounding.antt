@@ -3,7 +3,7 @@ use Rattle.whole.specs.Floor.{nearest-near, nearest-whole}
 use Rattle.rules.specs.declared.Rule.{Rule}
 use Rattle.rules.specs.declared.Rule.the-variants.{Nearest}
 use Rattle.rules.specs.Stages.{R, share}
-use Rattle.rules.specs.Laws.GoodStages.{Rounding}
+use Rattle.rules.specs.Laws.SoundFactors.{Rounding}
 
 pub rounding : (rule : Rule) → Rounding (R rule) (share rule)
 unfolding R share
