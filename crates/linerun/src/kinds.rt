@@ -54,7 +54,7 @@ fn single_sum(rule: Rule, sheet: &[i32], f: Layout, m: usize, x: &[i32; 16]) -> 
 }
 
 // A lower factor, applied: every element from the old block.
-pub fn lower(rule: Rule, sheet: &[i32], f: Layout, x: [i32; 16]) -> Passed
+fn lower(rule: Rule, sheet: &[i32], f: Layout, x: [i32; 16]) -> Passed
     requires { ⌜ InSheet (now sheet) f × (f .kind ≡ Kind.Lower) × Bounded bound x ⌝ }
     ensures { λ r. ⌜ Step bound (f .order) (fill (f .order) (appliedAt rule (now (sheet .entry)) f x) x) (r .outcome .ok)
         (r .block) ⌝ }
@@ -82,7 +82,7 @@ pub fn lower(rule: Rule, sheet: &[i32], f: Layout, x: [i32; 16]) -> Passed
 }
 
 // An upper factor, applied: every element from the old block.
-pub fn upper(rule: Rule, sheet: &[i32], f: Layout, x: [i32; 16]) -> Passed
+fn upper(rule: Rule, sheet: &[i32], f: Layout, x: [i32; 16]) -> Passed
     requires { ⌜ InSheet (now sheet) f × (f .kind ≡ Kind.Upper) × Bounded bound x ⌝ }
     ensures { λ r. ⌜ Step bound (f .order) (fill (f .order) (appliedAt rule (now (sheet .entry)) f x) x) (r .outcome .ok)
         (r .block) ⌝ }
@@ -110,7 +110,7 @@ pub fn upper(rule: Rule, sheet: &[i32], f: Layout, x: [i32; 16]) -> Passed
 }
 
 // A factor with a single row, applied: every element from the old block.
-pub fn single(rule: Rule, sheet: &[i32], f: Layout, x: [i32; 16]) -> Passed
+fn single(rule: Rule, sheet: &[i32], f: Layout, x: [i32; 16]) -> Passed
     requires { ⌜ InSheet (now sheet) f × (f .kind ≡ Kind.Single) × Bounded bound x ⌝ }
     ensures { λ r. ⌜ Step bound (f .order) (fill (f .order) (appliedAt rule (now (sheet .entry)) f x) x) (r .outcome .ok)
         (r .block) ⌝ }
@@ -136,7 +136,7 @@ pub fn single(rule: Rule, sheet: &[i32], f: Layout, x: [i32; 16]) -> Passed
 }
 
 // A lower factor, undone.
-pub fn lower_back(rule: Rule, sheet: &[i32], f: Layout, y: [i32; 16]) -> Passed
+fn lower_back(rule: Rule, sheet: &[i32], f: Layout, y: [i32; 16]) -> Passed
     requires { ⌜ InSheet (now sheet) f × (f .kind ≡ Kind.Lower) × (f .row < f .order) × Bounded bound y ⌝ }
     ensures { λ r. ⌜ Step bound (f .order) (undoneInPlace rule (now (sheet .entry)) f (f .order) y) (r .outcome .ok)
         (r .block) ⌝ }
@@ -165,7 +165,7 @@ pub fn lower_back(rule: Rule, sheet: &[i32], f: Layout, y: [i32; 16]) -> Passed
 }
 
 // An upper factor, undone.
-pub fn upper_back(rule: Rule, sheet: &[i32], f: Layout, y: [i32; 16]) -> Passed
+fn upper_back(rule: Rule, sheet: &[i32], f: Layout, y: [i32; 16]) -> Passed
     requires { ⌜ InSheet (now sheet) f × (f .kind ≡ Kind.Upper) × (f .row < f .order) × Bounded bound y ⌝ }
     ensures { λ r. ⌜ Step bound (f .order) (undoneInPlace rule (now (sheet .entry)) f (f .order) y) (r .outcome .ok)
         (r .block) ⌝ }
@@ -194,7 +194,7 @@ pub fn upper_back(rule: Rule, sheet: &[i32], f: Layout, y: [i32; 16]) -> Passed
 }
 
 // A factor with a single row, undone.
-pub fn single_back(rule: Rule, sheet: &[i32], f: Layout, y: [i32; 16]) -> Passed
+fn single_back(rule: Rule, sheet: &[i32], f: Layout, y: [i32; 16]) -> Passed
     requires { ⌜ InSheet (now sheet) f × (f .kind ≡ Kind.Single) × (f .row < f .order) × Bounded bound y ⌝ }
     ensures { λ r. ⌜ Step bound (f .order) (undoneInPlace rule (now (sheet .entry)) f (f .order) y) (r .outcome .ok)
         (r .block) ⌝ }

@@ -22,7 +22,7 @@ use rules::Rule;
 
 // The row in turn s. Undone, the rows go in the order of the column sheet's factor; else the row that is undone last comes first,
 // so that no row looks at one written before it.
-pub fn nth_row(task: Task, fa: Layout, s: usize) -> usize
+fn nth_row(task: Task, fa: Layout, s: usize) -> usize
     requires { ⌜ (s < fa .order) × (fa .row < fa .order) ⌝ }
     ensures { λ r. ⌜ r ≡ nthRow task fa s ⌝ }
 {
