@@ -1,6 +1,6 @@
 // The text that the program prints.
 ghost use Rattle.printing.specs.Program.{printed};
-ghost use Rattle.printing.specs.Writing.{Wrote};
+ghost use Rattle.printing.specs.Stated.{Wrote};
 
 #[no_mangle]
 pub extern "C" fn bench_text_of(input: &[u8], out: &mut [u8]) -> usize

@@ -8,12 +8,12 @@ use native.Mathlib.Decide.{ℕ-discrete}
 use native.Mathlib.Omega.{arith}
 use lib.IntN.{ℤ, pos, _-ℤ_, _*ℤ_}
 use lib.ListN.{length, set, length-set}
-use Rattle.whole.specs.Laws.{Sign}
+use Rattle.whole.specs.Stated.{Sign}
 use Rattle.rules.specs.Numbers.{at}
 use Rattle.rules.specs.declared.Rule.{Rule}
 use Rattle.rules.specs.Stages.{R, off, weighed, recover}
 use Rattle.rules.specs.Shapes.{byTurn}
-use Rattle.rules.specs.Laws.GoodStages.{Permutes, Recovers}
+use Rattle.rules.specs.GoodStages.{Permutes, Recovers}
 use Rattle.rules.specs.Laws.Lists.{set-at, set-other}
 use Rattle.rules.specs.Laws.RecoveryOrder.{Ranked, turns-recover, turn-one}
 use Rattle.rules.specs.Laws.Inverses.{recover-append, any-order}

@@ -11,13 +11,13 @@ use borrow.Author.Tests.{eq-eqb, ne-eqb}
 use lib.Dec.{eqb}
 use lib.IntN.{ℤ}
 use lib.ListN.{length}
-use Rattle.whole.specs.Laws.{Sign}
+use Rattle.whole.specs.Stated.{Sign}
 use Rattle.rules.specs.declared.Kind.{Kind}
 use Rattle.rules.specs.declared.Kind.the-variants.{Permutation, Lower, Upper, Single}
 use Rattle.rules.specs.Numbers.{mostOrder, at, count}
 use Rattle.rules.specs.Sheets.{kindOf, triangle}
 use Rattle.rules.specs.Factors.{signsAt, above}
-use Rattle.rules.specs.Laws.GoodStages.{Permutes}
+use Rattle.rules.specs.GoodStages.{Permutes}
 use Rattle.laws.specs.Tests.{triangle-twice, triangle-more}
 use Rattle.laws.specs.Accepted.{FactorRead, Weights, weights-room, entriesOf, Counts, entry-is, sign-is, row-is, place-counts}
 use Rattle.laws.specs.Sound.{places-permute}

@@ -10,7 +10,8 @@ use lib.IntN.{ℤ, pos}
 use lib.ListN.{length, set, replicate, length-set}
 use Rattle.rules.specs.Numbers.{mostOrder, at}
 use Rattle.rules.specs.Stages.{fill, putBack}
-use Rattle.rules.specs.Laws.GoodStages.{Permutes, same-permutes}
+use Rattle.rules.specs.GoodStages.{Permutes}
+use Rattle.rules.specs.Laws.SoundFactors.{same-permutes}
 use Rattle.rules.specs.Laws.Lists.{fill-at, set-at, set-other}
 use Rattle.factor.specs.SumBounds.{Bounded, bounded-fill, bounded-put}
 

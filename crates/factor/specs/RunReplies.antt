@@ -12,7 +12,7 @@ use Rattle.rules.specs.Numbers.{bound}
 use Rattle.rules.specs.Stages.{Stage, Ran, inside, beyond, runForward, runInverse}
 use Rattle.rules.specs.Answers.{refused}
 use Rattle.rules.specs.Calls.{Reply, Gives, reply, ranAnswer, ranMemory}
-use Rattle.rules.specs.Laws.GoodStages.{AllGood}
+use Rattle.rules.specs.GoodStages.{AllGood}
 use Rattle.rules.specs.Laws.Padding.{forward-padded, inverse-padded, allowance-padded}
 use Rattle.rules.specs.Laws.Runs.{loop-start, loop-refused}
 use Rattle.laws.specs.AnswersInTurn.{ranReply}

@@ -15,7 +15,8 @@ use lib.Seq.{set-out, getD-drop, take-all}
 use lib.Signed.{nonNeg, leZ, ltZ}
 use Rattle.whole.specs.Diff.{lia, given₁, Within}
 use Rattle.whole.specs.Machine.{within-*, within-+, within-le}
-use Rattle.whole.specs.Sum.{sum, sum-cong, sum-within}
+use Rattle.whole.specs.Stated.{sum}
+use Rattle.whole.specs.Sum.{sum-cong, sum-within}
 use Rattle.rules.specs.declared.Kind.{Kind}
 use Rattle.rules.specs.declared.Kind.the-variants.{Permutation, Lower, Upper, Single}
 use Rattle.rules.specs.Numbers.{mostEntry, mostAllowance, at, count}

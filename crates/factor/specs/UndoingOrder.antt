@@ -12,7 +12,8 @@ use lib.IntN.{pos}
 use Rattle.rules.specs.declared.Kind.{Kind}
 use Rattle.rules.specs.declared.Kind.the-variants.{Permutation, Lower, Upper, Single}
 use Rattle.rules.specs.Factors.{Factor, hasEntry, matrix}
-use Rattle.rules.specs.Laws.GoodStages.{Permutes, same-permutes}
+use Rattle.rules.specs.GoodStages.{Permutes}
+use Rattle.rules.specs.Laws.SoundFactors.{same-permutes}
 use Rattle.factor.specs.declared.Row.{Row}
 use Rattle.factor.specs.declared.Layout.{Layout}
 use Rattle.factor.specs.Layouts.{rowBy, rowOf}

@@ -12,7 +12,8 @@ use lib.Dec.{eqb}
 use lib.IntN.{ℤ, pos, natAbs, _+ℤ_, _*ℤ_}
 use lib.ListN.{replicate, getD-replicate}
 use Rattle.whole.specs.Diff.{lia}
-use Rattle.whole.specs.Sum.{sum, sum-cong, sum-split, sum-first}
+use Rattle.whole.specs.Stated.{sum}
+use Rattle.whole.specs.Sum.{sum-cong, sum-split, sum-first}
 use Rattle.rules.specs.declared.Kind.the-variants.{Permutation}
 use Rattle.rules.specs.Numbers.{unit, at, count}
 use Rattle.rules.specs.Sheets.{kindOf}

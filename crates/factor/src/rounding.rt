@@ -6,7 +6,7 @@ ghost use lib.IntN.{pos, natAbs, _+ℤ_, _-ℤ_, _*ℤ_};
 ghost use lib.Signed.{nonNeg};
 ghost use mir.Syntax.{w64};
 ghost use mir.Val.{SFits};
-ghost use Rattle.whole.specs.Laws.{Sign};
+ghost use Rattle.whole.specs.Stated.{Sign};
 ghost use Rattle.rules.specs.Numbers.{unit, unit²};
 ghost use Rattle.rules.specs.Stages.{R, Rounds, share, ceiling};
 use rules::Rule;

@@ -74,7 +74,7 @@ pub fn number_of(task: Task) -> u32
 }
 
 // Which of the factors comes after t others.
-pub fn nth_stage(task: Task, many: usize, t: usize) -> usize
+fn nth_stage(task: Task, many: usize, t: usize) -> usize
     requires { ⌜ t < many ⌝ }
     ensures { λ r. ⌜ r ≡ nthStage task many t ⌝ }
 {

@@ -5,7 +5,7 @@ ghost use lib.IntN.{_+ℤ_, _*ℤ_};
 ghost use lib.ListN.{length, drop};
 ghost use mir.Syntax.{w64};
 ghost use mir.Val.{SFits};
-ghost use Rattle.whole.specs.Sum.{sum};
+ghost use Rattle.whole.specs.Stated.{sum};
 ghost use Rattle.rules.specs.Numbers.{mostOrder, mostAllowance, at};
 ghost use Rattle.factor.specs.Layouts.{along};
 ghost use Rattle.factor.specs.SumBounds.{Terms, RowIn, Bounded};

@@ -6,7 +6,7 @@ use Prim.Native.Nat.{ℕ, zero, suc, _+_, _<_}
 use native.Mathlib.Omega.{arith}
 use lib.IntN.{ℤ, pos, _+ℤ_, _*ℤ_, zero-*ℤ}
 use lib.ListN.{length}
-use Rattle.whole.specs.Sum.{sum}
+use Rattle.whole.specs.Stated.{sum}
 use Rattle.rules.specs.declared.Kind.{Kind}
 use Rattle.rules.specs.declared.Kind.the-variants.{Permutation, Lower, Upper, Single}
 use Rattle.rules.specs.declared.Rule.{Rule}

@@ -8,7 +8,7 @@ use lib.Dec.{eqb, ltb}
 use lib.IntN.{ℤ, pos, _+ℤ_, _-ℤ_, _*ℤ_}
 use lib.ListN.{length, set}
 use Rattle.whole.specs.Diff.{Within}
-use Rattle.whole.specs.Laws.{Sign}
+use Rattle.whole.specs.Stated.{Sign}
 use Rattle.rules.specs.declared.Rule.{Rule}
 use Rattle.rules.specs.Numbers.{unit, bound, mostEntry, at}
 use Rattle.rules.specs.Stages.{Stage, R, forward, undo}

@@ -9,7 +9,8 @@ use lib.ListN.{replicate}
 use lib.Signed.{shrZ}
 use Rattle.whole.specs.Diff.{lia, given₁, Within}
 use Rattle.whole.specs.Floor.{shr-lo, shr-hi, shr-unique}
-use Rattle.whole.specs.Laws.{Sign, distrib}
+use Rattle.whole.specs.Stated.{Sign}
+use Rattle.whole.specs.Laws.{distrib}
 use Rattle.whole.specs.Machine.{within-le, within-*, within-pos, sign-within}
 use Rattle.rules.specs.Numbers.{unit, unit², mostEntry, mostAllowance, bound, at}
 use Rattle.rules.specs.declared.Rule.{Rule}

@@ -16,7 +16,7 @@ use Rattle.whole.specs.Sum.{sum-cong}
 use Rattle.rules.specs.Numbers.{unit², mostAllowance, at}
 use Rattle.rules.specs.declared.Rule.{Rule}
 use Rattle.rules.specs.Stages.{R}
-use Rattle.rules.specs.Laws.GoodStages.{Permutes}
+use Rattle.rules.specs.GoodStages.{Permutes}
 use Rattle.rules.specs.Laws.Lists.{fill-at, set-at, set-other}
 use Rattle.factor.specs.declared.Layout.{Layout}
 use Rattle.factor.specs.LayoutInSheet.{InSheet}

@@ -16,7 +16,7 @@ use Rattle.rules.specs.declared.Rule.{Rule}
 use Rattle.rules.specs.declared.Kind.the-variants.{Permutation}
 use Rattle.rules.specs.Numbers.{unit, bound, at}
 use Rattle.rules.specs.Stages.{fill, inside}
-use Rattle.rules.specs.Laws.GoodStages.{Permutes}
+use Rattle.rules.specs.GoodStages.{Permutes}
 use Rattle.rules.specs.Laws.Lists.{length-fill, fill-at, fill-past, same-list}
 use Rattle.rules.specs.Laws.Rectangles.{row-of, col-of}
 use Rattle.factor.specs.declared.Layout.{Layout}

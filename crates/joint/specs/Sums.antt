@@ -14,7 +14,8 @@ use lib.ListN.{length, set, replicate}
 use Rattle.whole.specs.Diff.{lin, Within}
 use Rattle.whole.specs.Laws.{distrib}
 use Rattle.whole.specs.Machine.{within-le, within-+, within--, within-*, within-pos}
-use Rattle.whole.specs.Sum.{sum, sum-cong, sum-within}
+use Rattle.whole.specs.Stated.{sum}
+use Rattle.whole.specs.Sum.{sum-cong, sum-within}
 use Rattle.rules.specs.Numbers.{mostEntry, mostAllowance, at}
 use Rattle.rules.specs.Stages.{fill}
 use Rattle.rules.specs.Laws.Lists.{length-fill, fill-at, fill-past, fill-same, same-list, set-other}

@@ -9,8 +9,8 @@ use native.Mathlib.Numerals.{add-one}
 use native.Mathlib.Omega.{arith}
 use lib.IntN.{ℤ, pos, _+ℤ_, _*ℤ_, +ℤ-idl, +ℤ-idr}
 use lib.ListN.{replicate}
-use Rattle.whole.specs.Laws.{Sign}
-use Rattle.whole.specs.Sum.{sum, sum-cong}
+use Rattle.whole.specs.Stated.{Sign, sum}
+use Rattle.whole.specs.Sum.{sum-cong}
 use Rattle.rules.specs.declared.Rule.{Rule}
 use Rattle.rules.specs.declared.Kind.the-variants.{Lower, Upper}
 use Rattle.rules.specs.Sheets.{triangle}

@@ -5,7 +5,7 @@ ghost use lib.IntN.{pos, _+ℤ_, _*ℤ_};
 ghost use mir.Syntax.{w32, w64};
 ghost use mir.Val.{SFits};
 ghost use Rattle.whole.specs.Diff.{Within};
-ghost use Rattle.whole.specs.Laws.{Sign};
+ghost use Rattle.whole.specs.Stated.{Sign};
 ghost use Rattle.rules.specs.Numbers.{unit, bound};
 ghost use Rattle.factor.specs.SumBounds.{Bounded};
 ghost use Rattle.factor.specs.LayoutInSheet.{InSheet};

@@ -7,7 +7,7 @@ ghost use lib.ListN.{replicate};
 ghost use mir.Syntax.{w64};
 ghost use mir.Val.{SFits};
 ghost use Rattle.whole.specs.Diff.{Within};
-ghost use Rattle.whole.specs.Sum.{sum};
+ghost use Rattle.whole.specs.Stated.{sum};
 ghost use Rattle.rules.specs.Numbers.{mostOrder, mostEntry, mostCells, mostAllowance, at};
 ghost use Rattle.factor.specs.SumBounds.{Bounded, RowIn};
 ghost use Rattle.joint.specs.Sums.{added, rowsSum, sideWith, withFour, entriesSum, columnSums, restSums, jointSum};

@@ -26,26 +26,16 @@ use Rattle.rules.specs.Stages.{R, inside, Stage, move, weigh, off, weighed, for
 use Rattle.rules.specs.Shapes.{order, stageOf, lineStage, lineStages, jointSource, jointSign, jointWeight, jointStage}
 use Rattle.rules.specs.Shapes.{jointStages}
 use Rattle.rules.specs.Answers.{accepted, further, start, matching}
-use Rattle.rules.specs.Laws.GoodStages.{AllMatch}
+use Rattle.rules.specs.Laws.SoundFactors.{AllMatch}
 use Rattle.rules.specs.Laws.Kinds.{by-kind, stage-moves, stage-weighs}
 use Rattle.rules.specs.Laws.Lists.{fill-same}
+use Rattle.laws.specs.Stated.Cuts.{cut, cutFront, cutBack}
 use Rattle.laws.specs.Readers.{Seen, one-fine}
 use Rattle.laws.specs.Accepted.{Stretch, stretch-of, Weights, entriesOf, BodyRead, FactorRead, further-first, further-add}
 use Rattle.laws.specs.Accepted.{further-least, Each, each-rest, each-more, Headed, Accepted, accepted-order, accepted-count}
 use Rattle.laws.specs.Prefix.{Moved, plain, place, Alike, fault-alike}
 use Rattle.laws.specs.Sound.{entry-inside, entry-kind, factors-length, factors-split, counts-agree, kinds-agree}
 use Rattle.laws.specs.Sound.{matching-of}
-
--- the sheet of k factors of s, from factor f on
-unfoldable pub cut : List ℤ → ℕ → ℕ → List ℤ
-cut s f k = at s 0 ∷ pos k ∷ take (start s (f + k) - start s f) (drop (start s f) s)
-
--- the first f factors, and the others
-abbrev pub cutFront : List ℤ → ℕ → List ℤ
-cutFront s f = cut s 0 f
-
-abbrev pub cutBack : List ℤ → ℕ → List ℤ
-cutBack s f = cut s f (count s 1 - f)
 
 -- ---- factors that are the same wherever a factor of order n is looked at
 pub record SameFactor (n : ℕ) (f g : Factor) : Type 0 where

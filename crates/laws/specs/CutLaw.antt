@@ -1,11 +1,9 @@
 -- THE CUT LAW of document 01 ("Allowance", its last sentence): a forward call of an accepted recipe is two calls, of its first f
 -- factors and of the others, with a slice of the block's length between them. For line sheets, and for pairs. Assumes nothing.
-use mathlib.Core.Bool.{cond}
 use mathlib.Core.List.{List}
 use mathlib.Core.Path.{_≡_, refl, sym, ap, _∙_}
-use Prim.Native.Nat.{ℕ, _+_, _-_, _*_, _<_}
+use Prim.Native.Nat.{ℕ, _-_, _*_, _<_}
 use native.Mathlib.Omega.{arith}
-use lib.Dec.{eqb}
 use lib.IntN.{ℤ}
 use lib.ListN.{length}
 use Rattle.rules.specs.declared.Answer.{Answer}
@@ -14,36 +12,17 @@ use Rattle.rules.specs.Factors.{factors}
 use Rattle.rules.specs.declared.Rule.{Rule}
 use Rattle.rules.specs.Stages.{Ran, done, beyond, later, runForward}
 use Rattle.rules.specs.Shapes.{lineStages, jointStages}
-use Rattle.rules.specs.Answers.{accepted, refused, checked, matching, pairChecked}
+use Rattle.rules.specs.Answers.{accepted, checked, matching, pairChecked}
 use Rattle.rules.specs.Calls.{Reply, reply, Plan, line, joint, ranAnswer, ranMemory, forwardCall}
 use Rattle.rules.specs.Laws.Runs.{follow, cut-forward}
 use Rattle.rules.specs.Laws.Cuts.{lines-append, lines-count, joints-append, joints-count}
+use Rattle.laws.specs.Stated.Cuts.{farther, inTwo, CutLaw, cut, cutFront, cutBack}
 use Rattle.laws.specs.Accepted.{Accepted, accepted-read, checked-accepted, pair-read, pair-accepted}
 use Rattle.laws.specs.Sound.{sheets-match, counts-agree}
-use Rattle.laws.specs.Cut.{cut, cutFront, cutBack, cut-factors-count, cut-match, front-accepted, back-accepted, cut-factors}
+use Rattle.laws.specs.Cut.{cut-factors-count, cut-match, front-accepted, back-accepted, cut-factors}
 use Rattle.laws.specs.Cut.{line-run-same, joint-run-same}
 use Rattle.laws.specs.AnswersInTurn.{ranReply}
 use Rattle.laws.specs.Plans.{run-ready, forward-length}
-
--- "a refusal of the second part has the first part's count added to its stage"
-unfoldable pub farther : ℕ → Reply ℤ → Reply ℤ
-farther f q =
-    cond (eqb (q .answer .number) 0) q
-    (record { answer = refused (q .answer .number) (q .answer .side) (f + q .answer .place); memory = q .memory })
-
--- the call of the first f factors, then, if it is accepted, that of the others on what it left; y is the slice lent at the end
-unfoldable pub inTwo : ℕ → Reply ℤ → (List ℤ → Reply ℤ) → List ℤ → Reply ℤ
-inTwo f first second y =
-    cond (eqb (first .answer .number) 0) (farther f (second (first .memory))) (record { answer = first .answer; memory = y })
-
-pub record CutLaw (rule : Rule) (p front back : Plan) (f : ℕ) : Type 0 where
-  -- the parts are accepted sheets, or pairs that match
-  pub first : front .sheets ≡ accepted
-  pub second : back .sheets ≡ accepted
-  -- the two calls give what the one gives: the same answer and the same memory
-  pub same :
-      (x middle y : List ℤ) → length x ≡ p .size → length middle ≡ p .size → length y ≡ p .size →
-      forwardCall rule p x y ≡ inTwo f (forwardCall rule front x middle) (λ u. forwardCall rule back u y) y
 
 -- ---- a call whose sheets and slices are right replies what its run gives
 ready : (rule : Rule) (p : Plan) (x y : List ℤ) → p .sheets .number ≡ 0 → length x ≡ p .size → length y ≡ p .size →

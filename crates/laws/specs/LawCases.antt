@@ -5,7 +5,7 @@ use mathlib.Core.Path.{_≡_, refl}
 use Prim.Native.Nat.{ℕ, _*_, _^_}
 use lib.Dec.{leb}
 use lib.IntN.{ℤ, pos, negℤ, natAbs, _-ℤ_, _*ℤ_}
-use Rattle.whole.specs.Sum.{sum}
+use Rattle.whole.specs.Stated.{sum}
 use Rattle.rules.specs.declared.Rule.the-variants.{Nearest}
 use Rattle.rules.specs.Numbers.{unit, unit², at}
 use Rattle.rules.specs.Sheets.{go, times, among, faultOf, one, kindOf, triangle, weights, body, factor, closed, head, reading}
@@ -14,12 +14,11 @@ use Rattle.rules.specs.Stages.{R, share, ceiling, fill, inside, off, weighed, m
 use Rattle.rules.specs.Stages.{through, runForward, runAllowance, exactProduct, exactScale}
 use Rattle.rules.specs.Shapes.{those, byTurn, turn, order, inRow, stageOf, lineStage, lineStages, jointSource, jointSign}
 use Rattle.rules.specs.Shapes.{jointWeight, jointShared, jointStage, jointStages}
-use Rattle.rules.specs.Answers.{_or-else_, refused, further, first, matching, pairChecked}
+use Rattle.rules.specs.Answers.{_or-else_, accepted, refused, further, first, matching, pairChecked}
 use Rattle.rules.specs.Calls.{Reply, reply, line, joint, ranAnswer, ranMemory, runReply, forwardCall, allowanceCall}
 use Rattle.rules.specs.Strips.{stripAnswer, outputs, bytesOf, strip}
-use Rattle.laws.specs.Cut.{cut, cutFront, cutBack}
-use Rattle.laws.specs.CutLaw.{farther, inTwo}
-use Rattle.laws.specs.Promises.{E, D}
+use Rattle.laws.specs.Stated.Calls.{E, D}
+use Rattle.laws.specs.Stated.Cuts.{cut, cutFront, cutBack, farther, inTwo}
 
 abbrev two : ℤ → ℤ → List ℤ
 two x y = x ∷ y ∷ []
@@ -104,13 +103,16 @@ unfolding sum go times among faultOf one kindOf triangle weights body factor clo
     stageOf lineStage lineStages _or-else_ further reply line ranAnswer ranMemory runReply forwardCall cut farther inTwo
 cut-cases = refl
 
--- a strip of one block: the first part refuses it, the second part runs on what the middle slice held
+-- a strip of one block: the first part refuses it, and the second part runs on what the middle slice held, and writes that
 pub strip-cut-case :
-    (strip (line twice) (forwardCall Nearest (line twice)) (two (pos 16777215) (pos 1)) lent (7 ∷ []) .bytes
-    ∷ strip (line (cutFront twice 1)) (forwardCall Nearest (line (cutFront twice 1))) (two (pos 16777215) (pos 1)) lent (7 ∷ []) .bytes
-    ∷ strip (line (cutBack twice 1)) (forwardCall Nearest (line (cutBack twice 1))) lent lent (7 ∷ []) .bytes
+    (strip (line twice) (forwardCall Nearest (line twice)) (two (pos 16777215) (pos 1)) lent (7 ∷ [])
+    ∷ strip (line (cutFront twice 1)) (forwardCall Nearest (line (cutFront twice 1))) (two (pos 16777215) (pos 1)) lent (7 ∷ [])
+    ∷ strip (line (cutBack twice 1)) (forwardCall Nearest (line (cutBack twice 1))) lent lent (7 ∷ [])
     ∷ [])
-    ≡ ((11 ∷ []) ∷ (11 ∷ []) ∷ (0 ∷ []) ∷ [])
+    ≡ (record { answer = accepted; output = lent; bytes = 11 ∷ [] }
+    ∷ record { answer = accepted; output = lent; bytes = 11 ∷ [] }
+    ∷ record { answer = accepted; output = two (pos 9) (pos 18); bytes = 0 ∷ [] }
+    ∷ [])
 unfolding sum go times among faultOf one kindOf triangle weights body factor closed head reading numbers signsAt above entriesBefore
     factorAt factorsFrom factors hasEntry matrix R fill inside off weighed forward later run runForward those byTurn turn order inRow
     stageOf lineStage lineStages _or-else_ further reply line ranAnswer ranMemory runReply forwardCall cut stripAnswer outputs bytesOf

@@ -1,3 +1,4 @@
+pub mod Stated
 pub mod Tests
 pub mod Readers
 pub mod Accepted

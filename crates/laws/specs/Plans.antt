@@ -1,11 +1,13 @@
 -- What an accepted reply of a run's call tells, and what makes one: sheets, lengths and the run itself. And good plans: their
--- stages can be undone as soon as their sheets are accepted. A line's plan and a pair's are good. Assumes nothing.
+-- stages can be undone and their blocks have a number as soon as their sheets are accepted. A line's plan and a pair's are good.
+-- Assumes nothing.
 use mathlib.Core.Bool.{Bool}
 use mathlib.Core.List.{List, [], _∷_, reverse}
 use mathlib.Core.Logic.{_↔_}
 use mathlib.Core.Path.{_≡_, refl, sym, ap, _∙_}
 use Prim.Native.Nat.{ℕ, suc}
 use native.Mathlib.Decide.{ℕ-discrete}
+use native.Mathlib.Nat.{mul-pos}
 use native.Mathlib.Omega.{arith}
 use borrow.Author.Tests.{eq-eqb, ne-eqb}
 use lib.IntN.{ℤ, pos}
@@ -16,25 +18,28 @@ use Rattle.rules.specs.Stages.{Stage, forward, undo, allow, Ran, done, beyond, 
 use Rattle.rules.specs.Answers.{accepted, _or-else_}
 use Rattle.rules.specs.Calls.{Gives, reply, Plan, line, joint, sized, ranAnswer, ranMemory, runReply, forwardCall, inverseCall}
 use Rattle.rules.specs.Calls.{allowanceCall}
-use Rattle.rules.specs.Laws.GoodStages.{AllGood}
 use Rattle.rules.specs.Laws.Inverses.{length-forward, length-undo}
 use Rattle.rules.specs.Laws.AllowanceLaw.{length-allow}
 use Rattle.rules.specs.Laws.Runs.{run-through}
 use Rattle.rules.specs.Laws.Kinds.{lines-good, joints-good}
-use Rattle.laws.specs.Accepted.{accepted-read, both-fine, pair-read}
+use Rattle.laws.specs.Stated.Calls.{GoodPlan}
+use Rattle.laws.specs.Accepted.{accepted-order, accepted-read, both-fine, pair-read}
 use Rattle.laws.specs.Sound.{sheet-sound, sheets-match}
 
 -- ---- plans
-pub record GoodPlan (p : Plan) : Type 0 where
-  pub good : p .sheets .number ≡ 0 → AllGood (p .size) (p .stages)
-
 pub line-plan : (s : List ℤ) → GoodPlan (line s)
 unfolding line
-line-plan s = record { good = λ h. lines-good (sheet-sound (accepted-read s h)) }
+line-plan s = record {
+  good = λ h. lines-good (sheet-sound (accepted-read s h));
+  some = λ h. accepted-order (accepted-read s h) .least;
+}
 
 pub joint-plan : (c r : List ℤ) → GoodPlan (joint c r)
 unfolding joint
-joint-plan c r = record { good = λ h. let a = pair-read c r h in joints-good (sheets-match (a .0) (a .1) (a .2)) }
+joint-plan c r = record {
+  good = λ h. let a = pair-read c r h in joints-good (sheets-match (a .0) (a .1) (a .2));
+  some = λ h. let a = pair-read c r h in mul-pos (accepted-order (a .0) .least) (accepted-order (a .1) .least);
+}
 
 -- ---- what is asked after the sheets
 pub sized-fine : {A : Type 0} (side n : ℕ) (v : List A) → sized side n v .number ≡ 0 → length v ≡ n

@@ -5,59 +5,26 @@ use mathlib.Core.Path.{_≡_, sym, ap, _∙_}
 use Prim.Native.Nat.{ℕ, _+_, _*_, _^_, _<_}
 use native.Mathlib.Omega.{arith}
 use borrow.Author.Tests.{ne-eqb}
-use lib.IntN.{ℤ, pos, natAbs, _-ℤ_, _*ℤ_}
+use lib.IntN.{ℤ, _*ℤ_}
 use lib.ListN.{length}
-use lib.Signed.{_≤ℤ_}
-use Rattle.whole.specs.Sum.{sum}
+use Rattle.whole.specs.Stated.{sum}
 use Rattle.rules.specs.declared.Answer.{Answer}
 use Rattle.rules.specs.Numbers.{unit, unit², at, count}
 use Rattle.rules.specs.Factors.{factors}
 use Rattle.rules.specs.declared.Rule.{Rule}
-use Rattle.rules.specs.Stages.{exactProduct, exactScale}
 use Rattle.rules.specs.Matrices.{product}
-use Rattle.rules.specs.Answers.{accepted, checked, pairChecked}
+use Rattle.rules.specs.Answers.{checked, pairChecked}
 use Rattle.rules.specs.Calls.{Reply, Gives, reply, read, write, writeTable, Plan, line, joint, runReply, forwardCall, inverseCall}
 use Rattle.rules.specs.Calls.{allowanceCall}
 use Rattle.rules.specs.Laws.Runs.{there-and-back, back-and-there}
 use Rattle.rules.specs.Laws.AllowanceLaw as Near
 use Rattle.rules.specs.Laws.Cuts.{lines-scale, joints-scale}
 use Rattle.rules.specs.Laws.ExactProducts.{exact-of-line, exact-of-joint}
+use Rattle.laws.specs.Stated.Calls.{E, D, GoodPlan, Promises, Keeps}
 use Rattle.laws.specs.Accepted.{accepted-read, pair-read}
 use Rattle.laws.specs.Sound.{sheet-sound, sheets-match, factors-length, counts-agree}
-use Rattle.laws.specs.Plans.{GoodPlan, line-plan, joint-plan, forward-length, inverse-length, forward-gives, inverse-gives}
+use Rattle.laws.specs.Plans.{line-plan, joint-plan, forward-length, inverse-length, forward-gives, inverse-gives}
 use Rattle.laws.specs.Plans.{allowance-gives}
-
--- a call, with some slice lent, is accepted and leaves c in that slice
-pub record Fills (call : List ℤ → Reply ℤ) (c : List ℤ) : Type 0 where
-  pub lent : List ℤ
-  pub gives : Gives accepted c (call lent)
-
--- "giving E at scale D"
-abbrev pub E : Plan → List ℤ → List ℤ
-E p x = exactProduct (p .size) (p .stages) x
-
-abbrev pub D : Plan → ℕ
-D p = exactScale (p .stages)
-
-pub record Promises (rule : Rule) (p : Plan) : Type 0 where
-  -- demand 2: coefficients that a forward call gave come back as the block, whatever the lent slice z had
-  pub back-again :
-      (x z : List ℤ) {c : List ℤ} → length z ≡ p .size → Fills (forwardCall rule p x) c →
-      Gives accepted x (inverseCall rule p c z)
-  -- and a block that an inverse call gave comes back as the coefficients
-  pub there-again :
-      (y z : List ℤ) {x : List ℤ} → length z ≡ p .size → Fills (inverseCall rule p y) x →
-      Gives accepted y (forwardCall rule p x z)
-  -- demand 3: "4096·|D·y - E| ≤ D·b"
-  pub within-allowance :
-      (x : List ℤ) {y b : List ℤ} → Fills (allowanceCall rule p) b → Fills (forwardCall rule p x) y → (e : ℕ) → e < p .size →
-      pos (unit * natAbs ((pos (D p) *ℤ at y e) -ℤ at (E p x) e)) ≤ℤ (pos (D p) *ℤ at b e)
-  -- "4096·|F(x) - F(z) - F(x-z)| ≤ 3·b", where u is x - z element by element
-  pub difference :
-      (x z u : List ℤ) {fx fz fu b : List ℤ} → ((e : ℕ) → e < p .size → at u e ≡ at x e -ℤ at z e) →
-      Fills (allowanceCall rule p) b → Fills (forwardCall rule p x) fx → Fills (forwardCall rule p z) fz →
-      Fills (forwardCall rule p u) fu →
-      (e : ℕ) → e < p .size → pos (unit * natAbs ((at fx e -ℤ at fz e) -ℤ at fu e)) ≤ℤ (pos 3 *ℤ at b e)
 
 module _ (rule : Rule) {p : Plan} (plan : GoodPlan p) where
   pub promised : Promises rule p
@@ -123,10 +90,6 @@ joint-scale c r h =
     joints-scale (count c 0) (count r 0) (factors c) (factors r) (m ∙ sym (n ∙ e)) ∙ ap (λ (k : ℕ). unit² ^ k) m
 
 -- ---- "Refused calls leave lent memory untouched"
--- a reply that, if it is refused, has the memory as lent
-pub record Keeps {A : Type 0} (q : Reply A) (lent : List A) : Type 0 where
-  pub keeps : (q .answer .number ≡ 0 → ⊥) → q .memory ≡ lent
-
 pub reply-keeps : {A : Type 0} (a : Answer) (new old : List A) → Keeps (reply a new old) old
 unfolding reply
 reply-keeps a new old = record { keeps = λ h. rw (ne-eqb (a .number) 0 h) }

@@ -12,14 +12,9 @@ use Rattle.rules.specs.Numbers.{unit, at}
 use Rattle.rules.specs.declared.Rule.{Rule}
 use Rattle.rules.specs.Answers.{accepted}
 use Rattle.rules.specs.Calls.{Reply, Gives, Plan, forwardCall, inverseCall, allowanceCall}
+use Rattle.laws.specs.Stated.Calls.{Accepts, Fills, E, D, Promises}
 use Rattle.laws.specs.Plans.{forward-accepted, inverse-accepted, allowance-accepted}
-use Rattle.laws.specs.Promises.{Fills, E, D, Promises, one-answer}
-
--- a call answered 0 and left m
-pub record Accepts (m : List ℤ) (q : Reply ℤ) : Type 0 where
-  pub answer : Answer
-  pub gives : Gives answer m q
-  pub zero : answer .number ≡ 0
+use Rattle.laws.specs.Promises.{one-answer}
 
 fine : {m : List ℤ} {q : Reply ℤ} → Accepts m q → q .answer .number ≡ 0
 fine h = ap (λ (a : Answer). a .number) (sym (h .gives .0)) ∙ h .zero

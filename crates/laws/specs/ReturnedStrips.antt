@@ -18,27 +18,22 @@ use Rattle.rules.specs.declared.Answer.{Answer}
 use Rattle.rules.specs.Numbers.{unit, at}
 use Rattle.rules.specs.declared.Rule.{Rule}
 use Rattle.rules.specs.Answers.{accepted}
-use Rattle.rules.specs.Calls.{Reply, Plan, forwardCall, inverseCall, allowanceCall}
-use Rattle.rules.specs.Strips.{StripReply, GivesStrip, block, blockReply, outputs, bytesOf, stripAnswer, strip}
-use Rattle.laws.specs.CutLaw.{farther, inTwo, CutLaw}
-use Rattle.laws.specs.Promises.{E, D, Promises}
-use Rattle.laws.specs.Returned.{Accepts, returned-back, returned-there, returned-near, returned-difference}
+use Rattle.rules.specs.Calls.{Reply, Gives, Plan, forwardCall, inverseCall, allowanceCall}
+use Rattle.rules.specs.Strips.{StripReply, GivesStrip, block, blockReply, outputs, bytesOf, stripAnswer, strip, forwardStrip}
+use Rattle.rules.specs.Strips.{inverseStrip}
+use Rattle.laws.specs.Stated.Strips.{StripGave, changed, StripPromises, BlocksBack, CutBlock}
+use Rattle.laws.specs.Stated.Cuts.{farther, inTwo, CutLaw}
+use Rattle.laws.specs.Stated.Calls.{GoodPlan, E, D, Promises, Accepts}
+use Rattle.laws.specs.Returned.{returned-back, returned-there, returned-near, returned-difference}
 use Rattle.laws.specs.Strips.{BlockCall, forward-block, inverse-block, StripFits, byte-of, bytes-length, output-of}
-use Rattle.laws.specs.Strips.{outputs-length, block-length, block-fits, block-front, strip-fits, strip-accepted, strip-ran}
-use Rattle.laws.specs.Strips.{strip-found, strip-answer}
+use Rattle.laws.specs.Strips.{outputs-length, block-length, block-fits, block-front, strip-fits, strip-accepted}
+use Rattle.laws.specs.Strips.{blocks-accepted, strip-ran, strip-found, strip-answer}
 
 -- ---- "the statement about its result leaves one answer and one state of lent memory"
 pub one-strip :
     {a c : Answer} {m n : List ℤ} {bs ds : List ℕ} (q : StripReply) → GivesStrip a m bs q → GivesStrip c n ds q →
     (a ≡ c) × (m ≡ n) × (bs ≡ ds)
 one-strip q g h = (g .0 ∙ sym (h .0), g .1 ∙ sym (h .1), g .2 ∙ sym (h .2))
-
--- a strip's call, lent x, y and b, answered 0 and left m and bs
-pub record StripGave (p : Plan) (call : List ℤ → List ℤ → Reply ℤ) (x y : List ℤ) (b : List ℕ) (m : List ℤ) (bs : List ℕ) : Type
-    0 where
-  pub answer : Answer
-  pub gives : GivesStrip answer m bs (strip p call x y b)
-  pub zero : answer .number ≡ 0
 
 module _ (p : Plan) (call : List ℤ → List ℤ → Reply ℤ) (x y : List ℤ) (b : List ℕ) where
   -- "Refused calls leave lent memory untouched"
@@ -108,10 +103,6 @@ module _ {p : Plan} {call : List ℤ → List ℤ → Reply ℤ} (whole : BlockC
     byte-number = rw (each-block .1) (whole .number _ _ (accepted-fits .sheets) input-block found-block)
 
 -- ---- "Changing one block changes no other block's output or byte"
--- v with u in place of its block j
-abbrev pub changed : ℕ → ℕ → List ℤ → List ℤ → List ℤ
-changed n j u v = take (j * n) v ++ u ++ drop (j * n + n) v
-
 -- another block stays
 other-block : (n j k : ℕ) (u v : List ℤ) → length u ≡ n → j * n + n ≤ length v → k ≢ j → block n k (changed n j u v) ≡ block n k v
 other-block n j k u v l f d = split (decLt k j)
@@ -158,45 +149,11 @@ change-one {p} whole {x} j u i l h g k n d =
     (omega (arith, block-fits j _ (p .size) i, accepted-fits whole h .input)) d) refl
 
 -- ---- request R-1 of any plan and any single call over it
-pub record StripPromises (p : Plan) (call : List ℤ → List ℤ → Reply ℤ) : Type 0 where
-  -- the contract leaves one answer, one output and one byte slice, refusals too
-  pub one :
-      (x y : List ℤ) (b : List ℕ) {a c : Answer} {m n : List ℤ} {bs ds : List ℕ} →
-      GivesStrip a m bs (strip p call x y b) → GivesStrip c n ds (strip p call x y b) → (a ≡ c) × (m ≡ n) × (bs ≡ ds)
-  -- a refused strip leaves output and bytes as found
-  pub refused :
-      (x y : List ℤ) (b : List ℕ) {a : Answer} {m : List ℤ} {bs : List ℕ} →
-      GivesStrip a m bs (strip p call x y b) → (a .number ≡ 0 → ⊥) → (m ≡ y) × (bs ≡ b)
-  -- "else accepted, zero blocks too"
-  pub not-refused :
-      (x y : List ℤ) (b : List ℕ) {a : Answer} {m : List ℤ} {bs : List ℕ} → 0 < p .size → p .sheets .number ≡ 0 →
-      length x ≡ length b * p .size → length y ≡ length x → GivesStrip a m bs (strip p call x y b) → a ≡ accepted
-  -- "Each block gets its single call's output and, in its byte, the number"
-  pub each :
-      {x y m : List ℤ} {b bs : List ℕ} → StripGave p call x y b m bs → (k : ℕ) → k < length b →
-      (block (p .size) k m ≡ blockReply p call x y k .memory) × (getD bs k 0 ≡ blockReply p call x y k .answer .number)
-  -- nothing stands beside the blocks and their bytes
-  pub long : {x y m : List ℤ} {b bs : List ℕ} → StripGave p call x y b m bs → (length m ≡ length b * p .size)
-      × (length bs ≡ length b)
-  -- "0 or 11"
-  pub number :
-      {x y m : List ℤ} {b bs : List ℕ} → StripGave p call x y b m bs → (k : ℕ) → k < length b →
-      (getD bs k 0 ≡ 0) ⊎ (getD bs k 0 ≡ 11)
-  -- "A block refused for range keeps its part of the output as found"
-  pub kept :
-      {x y m : List ℤ} {b bs : List ℕ} → StripGave p call x y b m bs → (k : ℕ) → k < length b → (getD bs k 0 ≡ 0 → ⊥) →
-      block (p .size) k m ≡ block (p .size) k y
-  -- "Changing one block changes no other block's output or byte"
-  pub others :
-      {x y m m′ : List ℤ} {b bs bs′ : List ℕ} (j : ℕ) (u : List ℤ) → j < length b → length u ≡ p .size →
-      StripGave p call x y b m bs → StripGave p call (changed (p .size) j u x) y b m′ bs′ →
-      (k : ℕ) → k < length b → k ≢ j → (block (p .size) k m′ ≡ block (p .size) k m) × (getD bs′ k 0 ≡ getD bs k 0)
-
-pub strip-promised : {p : Plan} {call : List ℤ → List ℤ → Reply ℤ} → BlockCall p call → StripPromises p call
-strip-promised {p} {call} whole = record {
+pub strip-promised : {p : Plan} {call : List ℤ → List ℤ → Reply ℤ} → GoodPlan p → BlockCall p call → StripPromises p call
+strip-promised {p} {call} plan whole = record {
   one = λ x y b. one-strip (strip p call x y b);
   refused = refused-strip p call;
-  not-refused = λ x y b some h l e g. g .0 ∙ strip-answer p call x y b ∙ strip-accepted p x y b some h l e;
+  not-refused = λ x y b h l e g. g .0 ∙ strip-answer p call x y b ∙ blocks-accepted p x y b (plan .some h) h l e;
   each = each-block whole;
   long = λ h. (output-long whole h, bytes-long whole h);
   number = byte-number whole;
@@ -204,40 +161,72 @@ strip-promised {p} {call} whole = record {
   others = change-one whole;
 }
 
--- ---- a strip run on what a strip left, block for block: both have the same number of blocks
-next-blocks :
-    {p : Plan} {call : List ℤ → List ℤ → Reply ℤ} (whole : BlockCall p call) {q : Plan} {x y m z : List ℤ} {b bs d : List ℕ} →
-    q .size ≡ p .size → StripGave p call x y b m bs → StripFits q m z d → length d ≡ length b
-next-blocks {p} whole {q} e h f =
+-- ---- a strip after a strip of as many blocks
+-- it is accepted, whatever stands in the slices that it is lent
+again-accepted :
+    {p : Plan} {call : List ℤ → List ℤ → Reply ℤ} (whole : BlockCall p call) {x y m : List ℤ} {b bs : List ℕ} →
+    StripGave p call x y b m bs → (q : Plan) (v z : List ℤ) (d : List ℕ) → q .size ≡ p .size → q .sheets .number ≡ 0 →
+    length v ≡ length x → length z ≡ length x → length d ≡ length b →
+    stripAnswer q v z d ≡ accepted
+again-accepted {p} whole h q v z d e f i j k =
     let l = accepted-fits whole h in
-    f .blocks ∙ rw (e, output-long whole h, ← (l .input)) (sym (l .blocks))
+    strip-accepted q v z d f (rw (e, i) (l .even)) (j ∙ sym i) (k ∙ rw (e, i) (l .blocks))
+
+gave : (p : Plan) (call : List ℤ → List ℤ → Reply ℤ) (x y : List ℤ) (b : List ℕ) {m : List ℤ} {bs : List ℕ} {a : Answer} →
+    GivesStrip a m bs (strip p call x y b) → a ≡ accepted → StripGave p call x y b m bs
+gave p call x y b {a = a} g e = record { answer = a; gives = g; zero = ap (λ (c : Answer). c .number) e }
+
+-- what a strip left is as long as its input
+same-length :
+    {p : Plan} {call : List ℤ → List ℤ → Reply ℤ} (whole : BlockCall p call) {x y m : List ℤ} {b bs : List ℕ} →
+    StripGave p call x y b m bs → length m ≡ length x
+same-length whole h = output-long whole h ∙ sym (accepted-fits whole h .input)
+
+-- a single call that brings back what another took, and so do their strips
+module _
+    {p : Plan} {call next : List ℤ → List ℤ → Reply ℤ} (whole : BlockCall p call) (after : BlockCall p next)
+    (back : (x y z c m : List ℤ) (a : Answer) → length z ≡ p .size → Accepts c (call x y) → Gives a m (next c z) →
+    (a ≡ accepted) × (m ≡ x)) where
+  strip-returns :
+      {x y m u : List ℤ} {b bs ds : List ℕ} {a : Answer} (z : List ℤ) (d : List ℕ) → StripGave p call x y b m bs →
+      length z ≡ length x → length d ≡ length b → GivesStrip a u ds (strip p next m z d) →
+      (a ≡ accepted) × BlocksBack (p .size) x bs u ds
+  strip-returns {x} {y} {m} {u} {b} {bs} {ds} {a} z d h i j g = (fine, comes)
+    where
+      fine : a ≡ accepted
+      fine =
+          g .0 ∙ strip-answer p next m z d
+          ∙ again-accepted whole h p m z d refl (accepted-fits whole h .sheets) (same-length whole h) i j
+
+      comes : BlocksBack (p .size) x bs u ds
+      comes k l e =
+          let o = gave p next m z d g fine in
+          let n : k < length b = omega (arith, bytes-long whole h) in
+          let t : k < length d = omega arith in
+          let each = each-block after o k t in
+          let r = back (block (p .size) k x) (block (p .size) k y) (block (p .size) k z) _ _ _ (found-block after o k t)
+          (block-accepts whole h k n e) (refl, refl) in
+          (each .1 ∙ ap (λ (c : Answer). c .number) (r .0), each .0 ∙ r .1)
 
 module _ {rule : Rule} {p : Plan} (promises : Promises rule p) where
-  -- demand 2: the inverse strip on what a forward strip left gives back each block whose byte is 0, whatever it is lent
+  -- demand 2: the inverse strip on what a forward strip left is accepted, whatever it is lent, and each block whose byte is 0
+  -- comes back
   pub strip-back :
-      {x y m z u : List ℤ} {b bs d ds : List ℕ} → StripGave p (forwardCall rule p) x y b m bs →
-      StripGave p (inverseCall rule p) m z d u ds →
-      (k : ℕ) → k < length b → getD bs k 0 ≡ 0 → (getD ds k 0 ≡ 0) × (block (p .size) k u ≡ block (p .size) k x)
-  strip-back {x} {y} {m} {z} {u} {b} {bs} {d} h g k l e =
-      let i : k < length d = omega (arith, next-blocks (forward-block rule p) refl h (accepted-fits (inverse-block rule p) g)) in
-      let a = each-block (inverse-block rule p) g k i in
-      let r = returned-back promises (block (p .size) k x) (block (p .size) k y) (block (p .size) k z)
-      (found-block (inverse-block rule p) g k i)
-      (block-accepts (forward-block rule p) h k l e) (refl, refl) in
-      (a .1 ∙ ap (λ (c : Answer). c .number) (r .0), a .0 ∙ r .1)
+      {x y m u : List ℤ} {b bs ds : List ℕ} {a : Answer} (z : List ℤ) (d : List ℕ) →
+      StripGave p (forwardCall rule p) x y b m bs → length z ≡ length x → length d ≡ length b →
+      GivesStrip a u ds (inverseStrip rule p m z d) →
+      (a ≡ accepted) × BlocksBack (p .size) x bs u ds
+  strip-back =
+      strip-returns (forward-block rule p) (inverse-block rule p) (λ x y z c m a. returned-back promises x y z)
 
   -- and the forward strip on what an inverse strip left
   pub strip-there :
-      {x y m z u : List ℤ} {b bs d ds : List ℕ} → StripGave p (inverseCall rule p) x y b m bs →
-      StripGave p (forwardCall rule p) m z d u ds →
-      (k : ℕ) → k < length b → getD bs k 0 ≡ 0 → (getD ds k 0 ≡ 0) × (block (p .size) k u ≡ block (p .size) k x)
-  strip-there {x} {y} {m} {z} {u} {b} {bs} {d} h g k l e =
-      let i : k < length d = omega (arith, next-blocks (inverse-block rule p) refl h (accepted-fits (forward-block rule p) g)) in
-      let a = each-block (forward-block rule p) g k i in
-      let r = returned-there promises (block (p .size) k x) (block (p .size) k y) (block (p .size) k z)
-      (found-block (forward-block rule p) g k i)
-      (block-accepts (inverse-block rule p) h k l e) (refl, refl) in
-      (a .1 ∙ ap (λ (c : Answer). c .number) (r .0), a .0 ∙ r .1)
+      {x y m u : List ℤ} {b bs ds : List ℕ} {a : Answer} (z : List ℤ) (d : List ℕ) →
+      StripGave p (inverseCall rule p) x y b m bs → length z ≡ length x → length d ≡ length b →
+      GivesStrip a u ds (forwardStrip rule p m z d) →
+      (a ≡ accepted) × BlocksBack (p .size) x bs u ds
+  strip-there =
+      strip-returns (inverse-block rule p) (forward-block rule p) (λ x y z c m a. returned-there promises x y z)
 
   -- demand 3: each coefficient of a block whose byte is 0 is within its allowance of the exact product
   pub strip-near :
@@ -284,45 +273,36 @@ in-two-number f first second y =
 
 in-two-memory :
     (f : ℕ) (first : Reply ℤ) (second : List ℤ → Reply ℤ) (y : List ℤ) → first .answer .number ≡ 0 →
-    second (first .memory) .answer .number ≡ 0 →
     inTwo f first second y .memory ≡ second (first .memory) .memory
 unfolding inTwo farther
-in-two-memory f first second y e d = rw (eq-eqb _ 0 e, eq-eqb _ 0 d)
+in-two-memory f first second y e = split (ℕ-discrete (second (first .memory) .answer .number) 0)
+  where
+    split :
+        Dec (second (first .memory) .answer .number ≡ 0) → inTwo f first second y .memory ≡ second (first .memory) .memory
+    split (yes d) = rw (eq-eqb _ 0 e, eq-eqb _ 0 d)
+    split (no d) = rw (eq-eqb _ 0 e, ne-eqb _ 0 d)
 
--- the whole strip, its first part with a middle slice as output, and its second part on what that left: block by block, the byte
--- is the first part's if that is not 0, else the second's; where both are 0, the outputs agree
-pub strip-cut :
+-- each block, once the parts' strips are known to be accepted
+cut-block :
     {rule : Rule} {p front back : Plan} {f : ℕ} → CutLaw rule p front back f → front .size ≡ p .size → back .size ≡ p .size →
     {x y m middle u v : List ℤ} {b bs b₁ bs₁ b₂ bs₂ : List ℕ} →
     StripGave p (forwardCall rule p) x y b m bs → StripGave front (forwardCall rule front) x middle b₁ u bs₁ →
-    StripGave back (forwardCall rule back) u y b₂ v bs₂ → (k : ℕ) → k < length b →
-    (getD bs k 0 ≡ cond (eqb (getD bs₁ k 0) 0) (getD bs₂ k 0) (getD bs₁ k 0))
-    × (getD bs₁ k 0 ≡ 0 → getD bs₂ k 0 ≡ 0 → block (p .size) k m ≡ block (p .size) k v)
-strip-cut {rule} {p} {front} {back} {f} law s t {x} {y} {m} {middle} {u} {v} {b} {bs} {b₁} {bs₁} {b₂} {bs₂} h g₁ g₂ k l = (
-  bytes .1 ∙ ap (λ (q : Reply ℤ). q .answer .number) same ∙ in-two-number f first second (block n k y)
-      ∙ rw (first-is .1, then-is .1),
-  λ e d. bytes .0 ∙ ap (λ (q : Reply ℤ). q .memory) same
-      ∙ in-two-memory f first second (block n k y) (sym (first-is .1) ∙ e) (sym (then-is .1) ∙ d) ∙ sym (then-is .0),
-)
+    StripGave back (forwardCall rule back) u y b₂ v bs₂ → (k : ℕ) → k < length b → k < length b₁ → k < length b₂ →
+    CutBlock (p .size) k y m bs bs₁ v bs₂
+cut-block {rule} {p} {front} {back} {f} law s t {x} {y} {m} {middle} {u} {v} {b} {bs} {b₁} {bs₁} {b₂} {bs₂} h g₁ g₂ k l k₁ k₂ =
+    record {
+      byte = bytes .1 ∙ ap (λ (q : Reply ℤ). q .answer .number) same ∙ in-two-number f first second (block (p .size) k y)
+          ∙ rw (first-is .1, then-is .1);
+      output = λ e. then-is .0 ∙ sym (bytes .0 ∙ ap (λ (q : Reply ℤ). q .memory) same
+          ∙ in-two-memory f first second (block (p .size) k y) (sym (first-is .1) ∙ e));
+      kept = λ d. rw t at (block-kept (forward-block rule back) g₂ k k₂ d);
+    }
   where
-    n : ℕ
-    n = p .size
-
     first : Reply ℤ
     first = forwardCall rule front (block (p .size) k x) (block (p .size) k middle)
 
     second : List ℤ → Reply ℤ
     second w = forwardCall rule back w (block (p .size) k y)
-
-    as-many : length b₁ ≡ length b
-    as-many = accepted-fits (forward-block rule front) g₁ .blocks ∙ rw s (sym (accepted-fits (forward-block rule p) h .blocks))
-
-    k₁ : k < length b₁
-    k₁ = omega (arith, as-many)
-
-    k₂ : k < length b₂
-    k₂ =
-        omega (arith, as-many, next-blocks (forward-block rule front) (t ∙ sym s) g₁ (accepted-fits (forward-block rule back) g₂))
 
     bytes : (block (p .size) k m ≡ forwardCall rule p (block (p .size) k x) (block (p .size) k y) .memory)
         × (getD bs k 0 ≡ forwardCall rule p (block (p .size) k x) (block (p .size) k y) .answer .number)
@@ -339,3 +319,36 @@ strip-cut {rule} {p} {front} {back} {f} law s t {x} {y} {m} {middle} {u} {v} {b}
         law .same (block (p .size) k x) (block (p .size) k middle) (block (p .size) k y)
         (input-block (forward-block rule p) h k l) (rw s at (found-block (forward-block rule front) g₁ k k₁))
         (found-block (forward-block rule p) h k l)
+
+-- the cut law of an accepted strip: both its parts' strips are accepted, whatever stands in the slices between
+pub strip-cut :
+    {rule : Rule} {p front back : Plan} {f : ℕ} → CutLaw rule p front back f → front .size ≡ p .size → back .size ≡ p .size →
+    {x y m u v : List ℤ} {b bs bs₁ bs₂ : List ℕ} {a₁ a₂ : Answer} (middle : List ℤ) (b₁ b₂ : List ℕ) →
+    StripGave p (forwardCall rule p) x y b m bs → length middle ≡ length x → length b₁ ≡ length b → length b₂ ≡ length b →
+    GivesStrip a₁ u bs₁ (forwardStrip rule front x middle b₁) → GivesStrip a₂ v bs₂ (forwardStrip rule back u y b₂) →
+    (a₁ ≡ accepted) × (a₂ ≡ accepted) × ((k : ℕ) → k < length b → CutBlock (p .size) k y m bs bs₁ v bs₂)
+strip-cut {rule} {p} {front} {back} {f} law s t {x} {y} {m} {u} {v} {b} {bs} {bs₁} {bs₂} {a₁} {a₂} middle b₁ b₂ h i j₁ j₂ g₁ g₂ =
+    (fine₁, fine₂, λ k l. cut-block law s t h front-gave back-gave k l (omega arith) (omega arith))
+  where
+    whole : BlockCall p (forwardCall rule p)
+    whole = forward-block rule p
+
+    fine₁ : a₁ ≡ accepted
+    fine₁ =
+        g₁ .0 ∙ strip-answer front (forwardCall rule front) x middle b₁
+        ∙ again-accepted whole h front x middle b₁ s (ap (λ (a : Answer). a .number) (law .first)) refl i j₁
+
+    front-gave : StripGave front (forwardCall rule front) x middle b₁ u bs₁
+    front-gave = gave front (forwardCall rule front) x middle b₁ g₁ fine₁
+
+    output-length : length y ≡ length x
+    output-length = let l = accepted-fits whole h in l .output ∙ sym (l .input)
+
+    fine₂ : a₂ ≡ accepted
+    fine₂ =
+        g₂ .0 ∙ strip-answer back (forwardCall rule back) u y b₂
+        ∙ again-accepted whole h back u y b₂ t (ap (λ (a : Answer). a .number) (law .second))
+        (same-length (forward-block rule front) front-gave) output-length j₂
+
+    back-gave : StripGave back (forwardCall rule back) u y b₂ v bs₂
+    back-gave = gave back (forwardCall rule back) u y b₂ g₂ fine₂

@@ -19,7 +19,8 @@ use Rattle.rules.specs.Numbers.{at, count}
 use Rattle.rules.specs.Sheets.{kindOf, triangle}
 use Rattle.rules.specs.Factors.{Factor, numbers, signsAt, above, entriesBefore, factorAt, factorsFrom, factors, hasEntry}
 use Rattle.rules.specs.Answers.{accepted, further, start, differ, clash, matching}
-use Rattle.rules.specs.Laws.GoodStages.{Permutes, Sound, AllSound, AllMatch}
+use Rattle.rules.specs.GoodStages.{Permutes}
+use Rattle.rules.specs.Laws.SoundFactors.{Sound, AllSound, AllMatch}
 use Rattle.laws.specs.Tests.{apart, natural-eq, triangle-more}
 use Rattle.laws.specs.Readers.{Seen}
 use Rattle.laws.specs.First.{first-before, first-none}

@@ -20,7 +20,8 @@ use Rattle.rules.specs.Strips.{StripReply, block, inBlocks, blockReply, outputs
 use Rattle.laws.specs.Accepted.{both-fine}
 use Rattle.laws.specs.Plans.{run-ready, sized-fine, sized-is, forward-length, inverse-length, forward-gives, inverse-gives}
 use Rattle.laws.specs.Plans.{forward-accepted, inverse-accepted}
-use Rattle.laws.specs.Promises.{Keeps, forward-keeps, inverse-keeps}
+use Rattle.laws.specs.Stated.Calls.{Keeps}
+use Rattle.laws.specs.Promises.{forward-keeps, inverse-keeps}
 
 -- ---- single calls, and what a strip over a plan asks of them
 pub record BlockCall (p : Plan) (call : List ℤ → List ℤ → Reply ℤ) : Type 0 where
@@ -152,15 +153,16 @@ module _ (p : Plan) (call : List ℤ → List ℤ → Reply ℤ) where
 -- what an accepted strip tells of its sheets and lengths
 pub record StripFits (p : Plan) (x y : List ℤ) (b : List ℕ) : Type 0 where
   pub sheets : p .sheets .number ≡ 0
+  pub even : length x % p .size ≡ 0
   pub blocks : length b ≡ length x / p .size
   pub input : length x ≡ length b * p .size
   pub output : length y ≡ length b * p .size
 
-in-blocks : (n : ℕ) (x : List ℤ) → inBlocks n x .number ≡ 0 → length x ≡ length x / n * n
+in-blocks : (n : ℕ) (x : List ℤ) → inBlocks n x .number ≡ 0 → length x % n ≡ 0
 in-blocks n x h = split (ℕ-discrete (length x % n) 0)
   where
-    split : Dec (length x % n ≡ 0) → length x ≡ length x / n * n
-    split (yes e) = omega (arith, div-add-mod' (length x) n)
+    split : Dec (length x % n ≡ 0) → length x % n ≡ 0
+    split (yes e) = e
     split (no d) = let z : _≡_ {A = ℕ} 10 0 = rw (ne-eqb (length x % n) 0 d) at h in absurd (omega arith)
 
 pub strip-fits : (p : Plan) (x y : List ℤ) (b : List ℕ) → stripAnswer p x y b .number ≡ 0 → StripFits p x y b
@@ -169,23 +171,33 @@ strip-fits p x y b h =
     let s = both-fine (p .sheets) _ h in
     let i = both-fine (inBlocks (p .size) x) _ (s .1) in
     let o = both-fine (sized 1 (length x) y) _ (i .1) in
-    let e = in-blocks (p .size) x (i .0) in
+    let d = in-blocks (p .size) x (i .0) in
+    let e : length x ≡ length x / p .size * p .size = omega (arith, div-add-mod' (length x) (p .size)) in
     let k = sized-fine 1 (length x / p .size) b (o .1) in
-    record { sheets = s .0; blocks = k; input = rw k e; output = sized-fine 1 (length x) y (o .0) ∙ rw k e }
+    record { sheets = s .0; even = d; blocks = k; input = rw k e; output = sized-fine 1 (length x) y (o .0) ∙ rw k e }
 
 -- "else accepted, zero blocks too"
 pub strip-accepted :
+    (p : Plan) (x y : List ℤ) (b : List ℕ) → p .sheets .number ≡ 0 → length x % p .size ≡ 0 → length y ≡ length x →
+    length b ≡ length x / p .size →
+    stripAnswer p x y b ≡ accepted
+unfolding stripAnswer _or-else_
+strip-accepted p x y b h e l k =
+    rw (
+      eq-eqb (p .sheets .number) 0 h,
+      eq-eqb (length x % p .size) 0 e,
+      sized-is 1 (length x) y l,
+      sized-is 1 (length x / p .size) b k,
+    )
+
+-- the same of as many blocks as there are bytes
+pub blocks-accepted :
     (p : Plan) (x y : List ℤ) (b : List ℕ) → 0 < p .size → p .sheets .number ≡ 0 → length x ≡ length b * p .size →
     length y ≡ length x →
     stripAnswer p x y b ≡ accepted
-unfolding stripAnswer _or-else_
-strip-accepted p x y b some h e l =
-    rw (
-      eq-eqb (p .sheets .number) 0 h,
-      eq-eqb (length x % p .size) 0 (ap (λ (m : ℕ). m % p .size) e ∙ mul-mod-left (length b) (p .size)),
-      sized-is 1 (length x) y l,
-      sized-is 1 (length x / p .size) b (sym (ap (λ (m : ℕ). m / p .size) e ∙ mul-div-cancel (length b) some)),
-    )
+blocks-accepted p x y b some h e l =
+    strip-accepted p x y b h (ap (λ (m : ℕ). m % p .size) e ∙ mul-mod-left (length b) (p .size)) l
+    (sym (ap (λ (m : ℕ). m / p .size) e ∙ mul-div-cancel (length b) some))
 
 -- ---- the reply
 module _ (p : Plan) (call : List ℤ → List ℤ → Reply ℤ) (x y : List ℤ) (b : List ℕ) where

@@ -11,10 +11,11 @@ use Rattle.rules.specs.Numbers.{unit, at, count}
 use Rattle.rules.specs.declared.Rule.the-variants.{Nearest}
 use Rattle.rules.specs.Answers.{accepted, checked}
 use Rattle.rules.specs.Calls.{Gives, line, forwardCall, inverseCall, allowanceCall}
-use Rattle.laws.specs.Cut.{cutFront, cutBack}
-use Rattle.laws.specs.CutLaw.{CutLaw, line-cut}
-use Rattle.laws.specs.Promises.{E, line-promises, line-scale, one-answer}
-use Rattle.laws.specs.Returned.{Accepts, returned-back, returned-there, returned-near, returned-difference}
+use Rattle.laws.specs.Stated.Cuts.{cutFront, cutBack, CutLaw}
+use Rattle.laws.specs.CutLaw.{line-cut}
+use Rattle.laws.specs.Stated.Calls.{E, Accepts}
+use Rattle.laws.specs.Promises.{line-promises, line-scale, one-answer}
+use Rattle.laws.specs.Returned.{returned-back, returned-there, returned-near, returned-difference}
 
 -- ---- one answer and one memory, refusals too
 pub one-forward :

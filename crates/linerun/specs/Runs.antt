@@ -11,7 +11,7 @@ use Rattle.rules.specs.Stages.{Stage}
 use Rattle.rules.specs.Shapes.{lineStage, lineStages}
 use Rattle.rules.specs.Answers.{further}
 use Rattle.rules.specs.Laws.Cuts.{lines-append}
-use Rattle.rules.specs.Laws.GoodStages.{AllGood}
+use Rattle.rules.specs.GoodStages.{AllGood}
 use Rattle.rules.specs.Laws.Runs.{loop-start}
 use Rattle.rules.specs.Laws.Kinds.{lines-good}
 use Rattle.laws.specs.Accepted.{Accepted, further-next}

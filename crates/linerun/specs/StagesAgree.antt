@@ -15,7 +15,8 @@ use Rattle.rules.specs.Factors.{Factor, signsAt, factorAt, matrix}
 use Rattle.rules.specs.declared.Rule.{Rule}
 use Rattle.rules.specs.Stages.{Stage, move, weigh, R, ceiling, share, fill, off, weighed, forward, undo, allow}
 use Rattle.rules.specs.Shapes.{order, inRow, lineStage}
-use Rattle.rules.specs.Laws.GoodStages.{Good, good-recovers}
+use Rattle.rules.specs.GoodStages.{Good}
+use Rattle.rules.specs.Laws.SoundFactors.{good-recovers}
 use Rattle.rules.specs.Laws.Kinds.{line-good, stage-moves, stage-weighs}
 use Rattle.rules.specs.Laws.Lists.{fill-same, put-same}
 use Rattle.laws.specs.Accepted.{FactorRead}

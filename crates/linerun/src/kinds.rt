@@ -62,7 +62,7 @@ fn single_sum(rule: Rule, sheet: &[i32], f: Layout, m: usize, x: &[i32; Block::L
 }
 
 // A lower factor, applied: every element from the old block.
-pub fn lower(rule: Rule, sheet: &[i32], f: Layout, x: [i32; Block::LINE]) -> Passed
+fn lower(rule: Rule, sheet: &[i32], f: Layout, x: [i32; Block::LINE]) -> Passed
     requires { ⌜ InSheet (now sheet) f × (f .kind ≡ Kind.Lower) × Bounded bound x ⌝ }
     ensures { λ r. ⌜ Step bound (f .order) (fill (f .order) (appliedAt rule (now (sheet .entry)) f x) x) (r .outcome .ok)
         (r .block) ⌝ }
@@ -90,7 +90,7 @@ pub fn lower(rule: Rule, sheet: &[i32], f: Layout, x: [i32; Block::LINE]) -> Pas
 }
 
 // An upper factor, applied: every element from the old block.
-pub fn upper(rule: Rule, sheet: &[i32], f: Layout, x: [i32; Block::LINE]) -> Passed
+fn upper(rule: Rule, sheet: &[i32], f: Layout, x: [i32; Block::LINE]) -> Passed
     requires { ⌜ InSheet (now sheet) f × (f .kind ≡ Kind.Upper) × Bounded bound x ⌝ }
     ensures { λ r. ⌜ Step bound (f .order) (fill (f .order) (appliedAt rule (now (sheet .entry)) f x) x) (r .outcome .ok)
         (r .block) ⌝ }
@@ -118,7 +118,7 @@ pub fn upper(rule: Rule, sheet: &[i32], f: Layout, x: [i32; Block::LINE]) -> Pas
 }
 
 // A factor with a single row, applied: every element from the old block.
-pub fn single(rule: Rule, sheet: &[i32], f: Layout, x: [i32; Block::LINE]) -> Passed
+fn single(rule: Rule, sheet: &[i32], f: Layout, x: [i32; Block::LINE]) -> Passed
     requires { ⌜ InSheet (now sheet) f × (f .kind ≡ Kind.Single) × Bounded bound x ⌝ }
     ensures { λ r. ⌜ Step bound (f .order) (fill (f .order) (appliedAt rule (now (sheet .entry)) f x) x) (r .outcome .ok)
         (r .block) ⌝ }
@@ -144,7 +144,7 @@ pub fn single(rule: Rule, sheet: &[i32], f: Layout, x: [i32; Block::LINE]) -> Pa
 }
 
 // A lower factor, undone.
-pub fn lower_back(rule: Rule, sheet: &[i32], f: Layout, y: [i32; Block::LINE]) -> Passed
+fn lower_back(rule: Rule, sheet: &[i32], f: Layout, y: [i32; Block::LINE]) -> Passed
     requires { ⌜ InSheet (now sheet) f × (f .kind ≡ Kind.Lower) × (f .row < f .order) × Bounded bound y ⌝ }
     ensures { λ r. ⌜ Step bound (f .order) (undoneInPlace rule (now (sheet .entry)) f (f .order) y) (r .outcome .ok)
         (r .block) ⌝ }
@@ -173,7 +173,7 @@ pub fn lower_back(rule: Rule, sheet: &[i32], f: Layout, y: [i32; Block::LINE]) -
 }
 
 // An upper factor, undone.
-pub fn upper_back(rule: Rule, sheet: &[i32], f: Layout, y: [i32; Block::LINE]) -> Passed
+fn upper_back(rule: Rule, sheet: &[i32], f: Layout, y: [i32; Block::LINE]) -> Passed
     requires { ⌜ InSheet (now sheet) f × (f .kind ≡ Kind.Upper) × (f .row < f .order) × Bounded bound y ⌝ }
     ensures { λ r. ⌜ Step bound (f .order) (undoneInPlace rule (now (sheet .entry)) f (f .order) y) (r .outcome .ok)
         (r .block) ⌝ }
@@ -202,7 +202,7 @@ pub fn upper_back(rule: Rule, sheet: &[i32], f: Layout, y: [i32; Block::LINE]) -
 }
 
 // A factor with a single row, undone.
-pub fn single_back(rule: Rule, sheet: &[i32], f: Layout, y: [i32; Block::LINE]) -> Passed
+fn single_back(rule: Rule, sheet: &[i32], f: Layout, y: [i32; Block::LINE]) -> Passed
     requires { ⌜ InSheet (now sheet) f × (f .kind ≡ Kind.Single) × (f .row < f .order) × Bounded bound y ⌝ }
     ensures { λ r. ⌜ Step bound (f .order) (undoneInPlace rule (now (sheet .entry)) f (f .order) y) (r .outcome .ok)
         (r .block) ⌝ }

@@ -12,7 +12,7 @@ use Rattle.rules.specs.declared.Kind.the-variants.{Permutation}
 use Rattle.rules.specs.Numbers.{at, count}
 use Rattle.rules.specs.Sheets.{kindOf}
 use Rattle.rules.specs.Stages.{fill}
-use Rattle.rules.specs.Laws.GoodStages.{Permutes}
+use Rattle.rules.specs.GoodStages.{Permutes}
 use Rattle.rules.specs.Laws.Lists.{length-fill, fill-at, fill-past}
 use Rattle.rules.specs.Laws.Rectangles.{row-below, col-below, element-below, row-of}
 use Rattle.laws.specs.Accepted.{FactorRead, Counts, place-counts}

@@ -11,7 +11,7 @@ use Prim.Native.Nat.{ℕ, _+_, _*_, _/_, _%_, _≤_, _<_}
 use lib.IntN.{ℤ}
 use lib.ListN.{length}
 use Rattle.rules.specs.Numbers.{at}
-use Rattle.rules.specs.Laws.GoodStages.{Permutes}
+use Rattle.rules.specs.GoodStages.{Permutes}
 use Rattle.rules.specs.Laws.Lists.{same-list}
 use Rattle.rules.specs.Laws.Rectangles.{row-below, col-below, element-below, row-of, col-of, pair-permutes}
 use Rattle.factor.specs.declared.Layout.{Layout}

@@ -1,3 +1,4 @@
+pub mod Stated
 pub mod Program
 pub mod Writing
 pub mod Digits

@@ -1,4 +1,4 @@
--- TEXT IN A LENT SLICE: some bytes are put from a place on, and what passes the slice's end is left out.
+-- LAWS OF TEXT IN A LENT SLICE: one text after another, and what passes the slice's end.
 use mathlib.Core.List.{List, [], _∷_, _++_}
 use mathlib.Core.Path.{_≡_, refl, sym, ap, _∙_}
 use Prim.Native.Nat.{ℕ, suc, _+_, _≤_, _<_, min}
@@ -6,11 +6,7 @@ use native.Mathlib.Decide.{decLt}
 use native.Mathlib.Omega.{arith}
 use lib.ListN.{length, set, length-set, length-append}
 use lib.Seq.{sets, length-sets, set-out}
-
--- l with the text put from place i on, and the place after it
-pub record Wrote (l : List ℕ) (i : ℕ) (text out : List ℕ) (r : ℕ) : Type 0 where
-  pub list : out ≡ sets l i text
-  pub place : r ≡ min (i + length text) (length l)
+use Rattle.printing.specs.Stated.{Wrote}
 
 sets-out : (text l : List ℕ) (i : ℕ) → length l ≤ i → sets l i text ≡ l
 sets-out [] l i h = refl

@@ -6,7 +6,7 @@ ghost use Prim.Native.Nat.{_≤_, _<_, max};
 ghost use lib.IntN.{pos, natAbs};
 ghost use lib.ListN.{length};
 ghost use Rattle.printing.specs.Program.{power, digitAt, digits, decimal, spaced, lineOf, refusal, replied};
-ghost use Rattle.printing.specs.Writing.{Wrote};
+ghost use Rattle.printing.specs.Stated.{Wrote};
 use recipebytes::number::below;
 use rules::Answer;
 
@@ -157,7 +157,7 @@ fn put_numbers(out: &mut [u8], i: usize, v: &[i32]) -> usize
 }
 
 // A word, then numbers, as a line.
-pub fn put_line(out: &mut [u8], i: usize, word: &[u8], v: &[i32]) -> usize
+fn put_line(out: &mut [u8], i: usize, word: &[u8], v: &[i32]) -> usize
     requires { ⌜ i ≤ length (now out) ⌝ }
     ensures { λ r. ⌜ Wrote (now (out .entry)) i (lineOf (now (word .entry)) (now (v .entry))) (now (out .exit)) r ⌝ }
 {

@@ -2,25 +2,29 @@
 -- and no other bytes are read so. Then the built-in recipe is an accepted sheet, in both printings.
 use mathlib.Core.List.{List}
 use mathlib.Core.Path.{_≡_, refl, sym, ap, _∙_}
-use Prim.Native.Nat.{ℕ}
+use Prim.Native.Nat.{ℕ, _^_, _<_}
 use lib.IntN.{ℤ}
 use lib.ListN.{length, take}
+use Rattle.rules.specs.Numbers.{at}
 use Rattle.rules.specs.Sheets.{go, times, among, faultOf, one, kindOf, triangle, weights, body, factor, closed, head, reading}
-use Rattle.rules.specs.Recipes.{packed, numbersOf}
+use Rattle.rules.specs.Recipes.{code, packed, numbersOf}
 use Rattle.rules.specs.Answers.{accepted, counted, checked}
 use Rattle.rules.specs.Calls.{Reply, reply, fitting, over, spelling, read, write, builtIn, firstPrinting}
 use Rattle.laws.specs.Accepted.{accepted-read}
 use Rattle.laws.specs.Low.{accepted-low}
 use Rattle.recipebytes.specs.Codes.{small-codable}
-use Rattle.recipebytes.specs.Spelling.{Bytes}
+use Rattle.recipebytes.specs.Stated.{Bytes}
 use Rattle.recipebytes.specs.Packing.{Codables, read-packed, packed-read, one-spelling}
 use Rattle.recipebytes.specs.Filling.{over-front}
 use Rattle.laws.specs.AnswersInTurn.{answer-passes}
 use Rattle.recipe.specs.Calls.{wrote, did-read}
 
--- every number of an accepted sheet has at most three groups
+-- every number of an accepted sheet has at most three groups of seven bits
 pub accepted-codables : (s : List ℤ) → checked s .number ≡ 0 → Codables s
 accepted-codables s h = record { each = λ i. small-codable _ (accepted-low (accepted-read s h) i) }
+
+pub three-groups : (s : List ℤ) → checked s .number ≡ 0 → (i : ℕ) → code (at s i) < 2 ^ 21
+three-groups s h i = accepted-codables s h .each i .fits
 
 -- what stands in the front of the slice, as far as the answer says
 front : {A : Type 0} (new room : List A) {r : Reply A} → r ≡ record { answer = counted (length new); memory = over new room }

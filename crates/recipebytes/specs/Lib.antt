@@ -1,3 +1,4 @@
+pub mod Stated
 pub mod Codes
 pub mod Spelling
 pub mod Packing

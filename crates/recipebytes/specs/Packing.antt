@@ -11,7 +11,7 @@ use lib.Seq.{drop-append-seam, getD-drop}
 use Rattle.rules.specs.Numbers.{at}
 use Rattle.rules.specs.Recipes.{code, written, spelt, group, groups, number, packed, unpack, left, numbersOf, leftOf}
 use Rattle.recipebytes.specs.Codes.{Codable, value-code}
-use Rattle.recipebytes.specs.Spelling.{Bytes}
+use Rattle.recipebytes.specs.Stated.{Bytes}
 use Rattle.recipebytes.specs.Spelling.{spell-least, read-written, written-read}
 
 -- every number of a list has at most three groups

@@ -11,10 +11,11 @@ use native.Mathlib.Omega.{arith}
 use borrow.Author.Tests.{lt-ltb, le-ltb, eq-eqb, ne-eqb}
 use lib.Dec.{eqb, ltb}
 use lib.IntN.{ℤ}
-use lib.ListN.{length, getD, take}
+use lib.ListN.{length, take}
 use Rattle.rules.specs.declared.Spelt.{Spelt}
 use Rattle.rules.specs.Recipes.{code, value, spell, written, spelt, none, group, groups, number}
 use Rattle.laws.specs.Tests.{apart}
+use Rattle.recipebytes.specs.Stated.{Bytes}
 use Rattle.recipebytes.specs.Codes.{Codable, code-value}
 
 -- ---- what one, two and three groups look like
@@ -94,9 +95,6 @@ unfolding limit
 read-written v q h = read-spell 2 (code v) q true (h .fits) (λ e. refl)
 
 -- ---- bytes
-pub record Bytes (l : List ℕ) : Type 0 where
-  pub each : (i : ℕ) → getD l i 0 < 256
-
 pub rest-bytes : {x : ℕ} {l : List ℕ} → Bytes (x ∷ l) → Bytes l
 rest-bytes h = record { each = λ i. h .each (suc i) }
 

@@ -12,10 +12,11 @@ use Rattle.rules.specs.Numbers.{unit, unit², at, count}
 use Rattle.rules.specs.declared.Rule.the-variants.{Nearest}
 use Rattle.rules.specs.Answers.{accepted, pairChecked}
 use Rattle.rules.specs.Calls.{Gives, joint, forwardCall, inverseCall, allowanceCall}
-use Rattle.laws.specs.Cut.{cutFront, cutBack}
-use Rattle.laws.specs.CutLaw.{CutLaw, joint-cut}
-use Rattle.laws.specs.Promises.{E, D, joint-promises, joint-scale, one-answer}
-use Rattle.laws.specs.Returned.{Accepts, returned-back, returned-there, returned-near, returned-difference}
+use Rattle.laws.specs.Stated.Cuts.{cutFront, cutBack, CutLaw}
+use Rattle.laws.specs.CutLaw.{joint-cut}
+use Rattle.laws.specs.Stated.Calls.{E, D, Accepts}
+use Rattle.laws.specs.Promises.{joint-promises, joint-scale, one-answer}
+use Rattle.laws.specs.Returned.{returned-back, returned-there, returned-near, returned-difference}
 
 -- ---- one answer and one memory, refusals too
 pub one-forward :

@@ -12,7 +12,7 @@ use Rattle.rules.specs.Stages.{Stage, Ran}
 use Rattle.rules.specs.Shapes.{jointStage, jointStages}
 use Rattle.rules.specs.Answers.{further, start, matching, pairChecked}
 use Rattle.rules.specs.Laws.Cuts.{joints-append}
-use Rattle.rules.specs.Laws.GoodStages.{AllGood}
+use Rattle.rules.specs.GoodStages.{AllGood}
 use Rattle.rules.specs.Laws.Kinds.{joints-good}
 use Rattle.laws.specs.Accepted.{Accepted, accepted-order, further-next, pair-read}
 use Rattle.laws.specs.Sound.{factors-split, factors-length, counts-agree, kinds-agree, sheets-match}

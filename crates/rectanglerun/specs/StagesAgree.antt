@@ -8,7 +8,8 @@ use native.Mathlib.Nat.{mul-le-mul}
 use native.Mathlib.Omega.{arith}
 use lib.IntN.{ℤ, pos, natAbs, _+ℤ_, _-ℤ_, _*ℤ_, zero-*ℤ, *ℤ-zero}
 use lib.ListN.{length, replicate}
-use Rattle.whole.specs.Sum.{sum, sum-cong}
+use Rattle.whole.specs.Stated.{sum}
+use Rattle.whole.specs.Sum.{sum-cong}
 use Rattle.rules.specs.declared.Kind.{Kind}
 use Rattle.rules.specs.declared.Kind.the-variants.{Permutation}
 use Rattle.rules.specs.Numbers.{unit², mostOrder, at, count}
@@ -17,7 +18,8 @@ use Rattle.rules.specs.Factors.{Factor, signsAt, factorAt, matrix}
 use Rattle.rules.specs.declared.Rule.{Rule}
 use Rattle.rules.specs.Stages.{Stage, move, weigh, R, ceiling, share, off, weighed, multiples, forward, undo, allow}
 use Rattle.rules.specs.Shapes.{order, jointSource, jointSign, jointWeight, jointShared, jointStage}
-use Rattle.rules.specs.Laws.GoodStages.{Permutes, Good, good-recovers}
+use Rattle.rules.specs.GoodStages.{Permutes, Good}
+use Rattle.rules.specs.Laws.SoundFactors.{good-recovers}
 use Rattle.rules.specs.Laws.Kinds.{joint-good, joint-signs, stage-moves, stage-weighs}
 use Rattle.rules.specs.Laws.Lists.{fill-at, fill-same, put-same}
 use Rattle.rules.specs.Laws.Rectangles.{row-below, col-below, row-of, col-of, joint-sum, joint-abs-sum}

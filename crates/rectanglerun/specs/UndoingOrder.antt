@@ -13,7 +13,8 @@ use Rattle.rules.specs.declared.Rule.{Rule}
 use Rattle.rules.specs.declared.Kind.the-variants.{Lower, Upper, Single}
 use Rattle.rules.specs.Numbers.{at}
 use Rattle.rules.specs.Shapes.{order}
-use Rattle.rules.specs.Laws.GoodStages.{Permutes, same-permutes}
+use Rattle.rules.specs.GoodStages.{Permutes}
+use Rattle.rules.specs.Laws.SoundFactors.{same-permutes}
 use Rattle.rules.specs.Laws.Rectangles.{row-below, col-below, row-of, col-of, pair-permutes}
 use Rattle.factor.specs.declared.Layout.{Layout}
 use Rattle.factor.specs.declared.run.Task.{Task}

@@ -10,8 +10,8 @@ use lib.Dec.{eqb}
 use lib.IntN.{ℤ, pos, natAbs, _+ℤ_, _-ℤ_, _*ℤ_}
 use lib.ListN.{replicate, length-replicate}
 use Rattle.whole.specs.Diff.{lia, given₁}
-use Rattle.whole.specs.Laws.{Sign}
-use Rattle.whole.specs.Sum.{sum, sum-cong}
+use Rattle.whole.specs.Stated.{Sign, sum}
+use Rattle.whole.specs.Sum.{sum-cong}
 use Rattle.rules.specs.declared.Kind.the-variants.{Permutation}
 use Rattle.rules.specs.Numbers.{unit, mostOrder, at, count}
 use Rattle.rules.specs.Sheets.{kindOf}

@@ -1,4 +1,4 @@
-pub mod GoodStages
+pub mod SoundFactors
 pub mod Rounding
 pub mod Membership
 pub mod Lists
@@ -12,3 +12,4 @@ pub mod Kinds
 pub mod ExactProducts
 pub mod Cuts
 pub mod Padding
+pub mod CosineClose

@@ -8,6 +8,7 @@ pub mod Recipes
 pub mod Answers
 pub mod Calls
 pub mod Strips
+pub mod GoodStages
 pub mod Figures
 pub mod Refusals
 pub mod Cosine

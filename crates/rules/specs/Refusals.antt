@@ -4,7 +4,7 @@ use mathlib.Core.List.{List, [], _∷_, _++_, map}
 use mathlib.Core.Path.{_≡_, refl}
 use Prim.Native.Nat.{ℕ, zero, suc}
 use lib.IntN.{ℤ, pos}
-use Rattle.whole.specs.Sum.{sum}
+use Rattle.whole.specs.Stated.{sum}
 use Rattle.rules.specs.declared.Answer.{Answer}
 use Rattle.rules.specs.Sheets.{go, times, among, faultOf, one, kindOf, triangle, weights, body, factor, closed, head}
 use Rattle.rules.specs.Sheets.{reading}

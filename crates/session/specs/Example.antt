@@ -12,7 +12,7 @@ use Rattle.rules.specs.Recipes.{code, value, spell, group, groups, packed, unpa
 use Rattle.rules.specs.Answers.{_or-else_, further, first, matching, pairChecked}
 use Rattle.rules.specs.Calls.{reply, read, write, writeTable, line, joint, ranAnswer, ranMemory, runReply, forwardCall}
 use Rattle.rules.specs.Calls.{inverseCall, allowanceCall}
-use Rattle.whole.specs.Sum.{sum}
+use Rattle.whole.specs.Stated.{sum}
 use Rattle.printing.specs.Program.{digitAt, digits, decimal, spaced, lineOf, sayForward, sayBack, sayAllow, refusal, replied}
 use Rattle.printing.specs.Program.{afterwards, ran, counts, printed}
 

@@ -5,7 +5,7 @@ ghost use lib.ListN.{length};
 ghost use Rattle.rules.specs.Recipes.{numbersOf};
 ghost use Rattle.printing.specs.Program.{limit, afterwards, ran, printed};
 ghost use Rattle.session.specs.Inputs.{sessionOf};
-ghost use Rattle.printing.specs.Writing.{Wrote};
+ghost use Rattle.printing.specs.Stated.{Wrote};
 use input::block_at;
 use input::check_count;
 use printing::put_refusal;

@@ -37,7 +37,7 @@ pub fn count_at(sheet: &[i32], i: usize) -> usize
 }
 
 // The table of kinds. A number that is none of 1 to 4 is refused before anybody asks.
-pub fn kind_of(number: usize) -> Kind
+fn kind_of(number: usize) -> Kind
     ensures { λ r. ⌜ r ≡ kindOf number ⌝ }
 {
     if number == 1 {

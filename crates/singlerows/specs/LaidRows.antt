@@ -13,7 +13,8 @@ use lib.IntN.{ℤ, pos, _+ℤ_, _*ℤ_, +ℤ-idl, zero-*ℤ}
 use lib.ListN.{length, replicate}
 use Rattle.whole.specs.Diff.{Within}
 use Rattle.whole.specs.Machine.{within-le, within-pos}
-use Rattle.whole.specs.Sum.{sum, sum-cong, sum-split, sum-first}
+use Rattle.whole.specs.Stated.{sum}
+use Rattle.whole.specs.Sum.{sum-cong, sum-split, sum-first}
 use Rattle.rules.specs.declared.Kind.the-variants.{Single}
 use Rattle.rules.specs.declared.Rule.{Rule}
 use Rattle.rules.specs.Numbers.{mostEntry, bound, at}

@@ -10,10 +10,11 @@ use lib.IntN.{ℤ, pos, _+ℤ_, _-ℤ_, _*ℤ_, +ℤ-idl, +ℤ-idr}
 use lib.Signed.{_≤ℤ_, _<ℤ_, shrZ}
 use lib.ListN.{length, replicate}
 use Rattle.whole.specs.Diff.{lia, lin, given₂, Within}
-use Rattle.whole.specs.Laws.{Sign, signs-times, distrib, mul-left-comm, mul-add}
+use Rattle.whole.specs.Stated.{Sign, sum}
+use Rattle.whole.specs.Laws.{signs-times, distrib, mul-left-comm, mul-add}
 use Rattle.whole.specs.Floor.{shr-lo, shr-hi, shr-unique}
 use Rattle.whole.specs.Machine.{within-sign, within-le, within-*}
-use Rattle.whole.specs.Sum.{sum, sum-cong, sum-scale, sum-within}
+use Rattle.whole.specs.Sum.{sum-cong, sum-scale, sum-within}
 use Rattle.rules.specs.declared.Kind.the-variants.{Single}
 use Rattle.rules.specs.declared.Rule.{Rule}
 use Rattle.rules.specs.declared.Rule.the-variants.{Nearest}

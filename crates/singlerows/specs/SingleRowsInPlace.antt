@@ -15,13 +15,14 @@ use lib.IntN.{ℤ, natAbs, _+ℤ_, _*ℤ_}
 use lib.ListN.{length, set, length-set}
 use lib.Seq.{set-set}
 use Rattle.whole.specs.Diff.{Within}
-use Rattle.whole.specs.Laws.{Sign, signs-times}
+use Rattle.whole.specs.Stated.{Sign}
+use Rattle.whole.specs.Laws.{signs-times}
 use Rattle.whole.specs.Machine.{within-sign}
 use Rattle.whole.specs.Sum.{sum-cong}
 use Rattle.rules.specs.declared.Kind.the-variants.{Single}
 use Rattle.rules.specs.declared.Rule.{Rule}
 use Rattle.rules.specs.Numbers.{at}
-use Rattle.rules.specs.Laws.GoodStages.{Permutes}
+use Rattle.rules.specs.GoodStages.{Permutes}
 use Rattle.rules.specs.Laws.Membership.{true-false}
 use Rattle.rules.specs.Laws.Lists.{set-at, set-other, same-list}
 use Rattle.factor.specs.declared.Layout.{Layout}

@@ -8,7 +8,7 @@ ghost use lib.ListN.{length};
 ghost use mir.Syntax.{w32};
 ghost use mir.Val.{SFits};
 ghost use Rattle.whole.specs.Diff.{Within};
-ghost use Rattle.whole.specs.Laws.{Sign};
+ghost use Rattle.whole.specs.Stated.{Sign};
 ghost use Rattle.rules.specs.declared.Kind.the-variants.{Single};
 ghost use Rattle.rules.specs.Numbers.{mostOrder, unit, mostCells, bound, at};
 ghost use Rattle.rules.specs.Stages.{R};

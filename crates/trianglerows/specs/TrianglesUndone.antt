@@ -11,7 +11,8 @@ use lib.IntN.{ℤ, pos, natAbs, _+ℤ_, _*ℤ_}
 use lib.ListN.{length, set, length-set}
 use Rattle.whole.specs.Diff.{Within}
 use Rattle.whole.specs.Machine.{within-le}
-use Rattle.whole.specs.Sum.{sum, sum-first}
+use Rattle.whole.specs.Stated.{sum}
+use Rattle.whole.specs.Sum.{sum-first}
 use Rattle.laws.specs.Tests.{apart}
 use Rattle.rules.specs.declared.Rule.{Rule}
 use Rattle.rules.specs.declared.Kind.the-variants.{Lower, Upper}

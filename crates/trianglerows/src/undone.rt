@@ -4,7 +4,7 @@ ghost use mathlib.Core.Path.{_≡_};
 ghost use Prim.Native.Nat.{suc, _+_, _-_, _≤_, _<_};
 ghost use lib.IntN.{_+ℤ_, _*ℤ_};
 ghost use Rattle.whole.specs.Diff.{Within};
-ghost use Rattle.whole.specs.Sum.{sum};
+ghost use Rattle.whole.specs.Stated.{sum};
 ghost use Rattle.rules.specs.declared.Kind.the-variants.{Lower, Upper};
 ghost use Rattle.rules.specs.Numbers.{mostOrder, bound, at};
 ghost use Rattle.factor.specs.Layouts.{rowOf};

@@ -1,12 +1,13 @@
 -- Laws of the whole numbers: products, the order, magnitudes, signs; and `distrib`, which multiplies products out. Assumes
 -- nothing.
 use mathlib.Core.Path.{_≡_, refl}
-use mathlib.Core.Logic.{_⊎_, inl, inr}
+use mathlib.Core.Logic.{inl, inr}
 use Prim.Native.Nat.{suc, _+_, _*_, _≤_}
 use native.Mathlib.Nat as NatL
 use native.Mathlib.Omega.{arith}
 use lib.IntN.{ℤ, pos, negsuc, negℤ, _+ℤ_, _*ℤ_, natAbs}
 use lib.Signed.{_≤ℤ_}
+use Rattle.whole.specs.Stated.{Sign}
 use Rattle.whole.specs.Diff.{lia, zarith, le-read}
 
 -- ---- products. A sum's own laws are `simp lia (omega arith)`, or +ℤ-comm and its like in lib.IntN
@@ -59,9 +60,6 @@ abs-mul (negsuc m) (pos n) = abs-neg (pos (suc m * n))
 abs-mul (negsuc m) (negsuc n) = refl
 
 -- ---- signs: 1 or -1
-abbrev pub Sign : ℤ → Type 0
-Sign d = (d ≡ pos 1) ⊎ (d ≡ negsuc 0)
-
 pub signs-times : {d e : ℤ} → Sign d → Sign e → Sign (d *ℤ e)
 signs-times (inl i) (inl j) = inl (rw (i, j))
 signs-times (inl i) (inr j) = inr (rw (i, j))

@@ -1,3 +1,4 @@
+pub mod Stated
 pub mod Diff
 pub mod Laws
 pub mod Floor

@@ -12,7 +12,8 @@ use mir.Syntax.{Width, w32, w64}
 use mir.Val.{SFits, hbits, toZ, ofZ}
 use mir.Facts.{toZ-ofZ}
 use Rattle.whole.specs.Diff.{lia, zarith, Within}
-use Rattle.whole.specs.Laws.{abs-mul, Sign, sign-abs}
+use Rattle.whole.specs.Stated.{Sign}
+use Rattle.whole.specs.Laws.{abs-mul, sign-abs}
 
 -- ---- bounds
 pub within-le : {A B : ℕ} {z : ℤ} → A ≤ B → Within A z → Within B z

@@ -1,4 +1,4 @@
--- Finite sums f 0 + .. + f (n - 1) of whole numbers, as a loop makes them: the last term is added last. Assumes nothing.
+-- LAWS OF FINITE SUMS of whole numbers, as a loop makes them: the last term is added last. Assumes nothing.
 use mathlib.Core.Path.{_≡_, refl, sym, ap₂}
 use mathlib.Core.Logic.{_≢_}
 use Prim.Native.Nat.{ℕ, zero, suc, _+_, _*_, _≤_, _<_}
@@ -7,12 +7,9 @@ use native.Mathlib.Numerals.{unary-clauses}
 use native.Mathlib.Omega.{arith}
 use native.Mathlib.Decide.{ℕ-discrete}
 use lib.IntN.{ℤ, pos, _+ℤ_, _*ℤ_, natAbs}
+use Rattle.whole.specs.Stated.{sum}
 use Rattle.whole.specs.Diff.{lia, Within}
 use Rattle.whole.specs.Laws.{abs-add}
-
-unfoldable pub sum : ℕ → (ℕ → ℤ) → ℤ
-sum zero f = pos 0
-sum (suc n) f = sum n f +ℤ f n
 
 pub sum-cong : (n : ℕ) (f g : ℕ → ℤ) → ((i : ℕ) → i < n → f i ≡ g i) → sum n f ≡ sum n g
 unfolding sum

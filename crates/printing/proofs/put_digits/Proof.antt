@@ -5,7 +5,8 @@ use Prim.Native.Nat.{ℕ, _-_, _≤_}
 use native.Mathlib.Omega.{arith}
 use borrow.Author.Needs.{needs}
 use Rattle.printing.specs.Program.{power, digitAt, digits}
-use Rattle.printing.specs.Writing.{Wrote, wrote-none, wrote-then, wrote-as, wrote-inside, wrote-long}
+use Rattle.printing.specs.Stated.{Wrote}
+use Rattle.printing.specs.Writing.{wrote-none, wrote-then, wrote-as, wrote-inside, wrote-long}
 use Rattle.printing.specs.Digits.{power-some, digits-none, digits-next}
 use Rattle.printing.proofs.put_digits.Statement.{statement}
 use Rattle.printing.proofs.put_digits.Tie as tie

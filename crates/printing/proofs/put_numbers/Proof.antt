@@ -4,7 +4,8 @@ use Prim.Native.Nat.{ℕ, _-_, _≤_}
 use native.Mathlib.Omega.{arith}
 use borrow.Author.Needs.{needs}
 use lib.ListN.{length, take}
-use Rattle.printing.specs.Writing.{Wrote, wrote-none, wrote-then, wrote-as, wrote-inside, wrote-long}
+use Rattle.printing.specs.Stated.{Wrote}
+use Rattle.printing.specs.Writing.{wrote-none, wrote-then, wrote-as, wrote-inside, wrote-long}
 use lib.Seq.{take-length}
 use mir.Syntax.{w32}
 use mir.Facts.{toZ-ofZ}

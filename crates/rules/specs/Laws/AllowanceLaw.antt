@@ -1,4 +1,4 @@
--- THE ALLOWANCE LAW AND THE DIFFERENCE LAW, for any rounding rule: of the rounding only `GoodStages.Rounding` is used.
+-- THE ALLOWANCE LAW AND THE DIFFERENCE LAW, for any rounding rule: of the rounding only `SoundFactors.Rounding` is used.
 use mathlib.Core.Bool.{Bool, true, false, cond}
 use mathlib.Core.List.{List}
 use mathlib.Core.Logic.{inl}
@@ -13,14 +13,15 @@ use lib.IntN.{ℤ, pos, negsuc, negℤ, natAbs, _+ℤ_, _-ℤ_, _*ℤ_}
 use lib.ListN.{length, replicate, length-replicate, getD-replicate}
 use lib.Signed.{_≤ℤ_}
 use Rattle.whole.specs.Diff.{lia, lin, lia-abs, given₁, given₂, given₃}
-use Rattle.whole.specs.Laws.{Sign, distrib, abs-mul, mul-le-mul-left, sign-abs}
+use Rattle.whole.specs.Stated.{Sign, sum}
+use Rattle.whole.specs.Laws.{distrib, abs-mul, mul-le-mul-left, sign-abs}
 use Rattle.whole.specs.Floor.{ceiling-up}
-use Rattle.whole.specs.Sum.{sum, sum-cong}
+use Rattle.whole.specs.Sum.{sum-cong}
 use Rattle.rules.specs.Numbers.{unit, at}
 use Rattle.rules.specs.declared.Rule.{Rule}
 use Rattle.rules.specs.Stages.{R, share, ceiling, Stage, move, weigh, scale, off, weighed, multiples, forward, allow, exact}
 use Rattle.rules.specs.Stages.{done, through, runForward, runAllowance, exactProduct, exactScale}
-use Rattle.rules.specs.Laws.GoodStages.{Good, moves, weighs, AllGood}
+use Rattle.rules.specs.GoodStages.{Good, moves, weighs, AllGood}
 use Rattle.rules.specs.Laws.Rounding.{rounding}
 use Rattle.rules.specs.Laws.Membership.{true-false}
 use Rattle.rules.specs.Laws.Lists.{length-fill, fill-at}

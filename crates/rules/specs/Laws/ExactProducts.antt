@@ -14,7 +14,8 @@ use lib.IntN.{ℤ, pos, _*ℤ_, zero-*ℤ, *ℤ-zero}
 use lib.ListN.{length}
 use Rattle.whole.specs.Diff.{lia, lin}
 use Rattle.whole.specs.Laws.{distrib, mul-assoc}
-use Rattle.whole.specs.Sum.{sum, sum-cong, sum-scale, sum-scaled, sum-single, sum-swap}
+use Rattle.whole.specs.Stated.{sum}
+use Rattle.whole.specs.Sum.{sum-cong, sum-scale, sum-scaled, sum-single, sum-swap}
 use Rattle.rules.specs.declared.Kind.{Kind}
 use Rattle.rules.specs.declared.Kind.the-variants.{Permutation, Lower, Upper, Single}
 use Rattle.rules.specs.Numbers.{unit, unit², at}
@@ -22,7 +23,8 @@ use Rattle.rules.specs.Factors.{Factor, matrix}
 use Rattle.rules.specs.Stages.{Stage, move, exact, through, exactProduct}
 use Rattle.rules.specs.Shapes.{lineStage, lineStages, jointSource, jointWeight, jointStage, jointStages}
 use Rattle.rules.specs.Matrices.{Matrix, moving, matrixOf, unchanged, after, product}
-use Rattle.rules.specs.Laws.GoodStages.{Permutes, Sound, AllSound, AllMatch}
+use Rattle.rules.specs.GoodStages.{Permutes}
+use Rattle.rules.specs.Laws.SoundFactors.{Sound, AllSound, AllMatch}
 use Rattle.rules.specs.Laws.Lists.{fill-at}
 use Rattle.rules.specs.Laws.AllowanceLaw.{length-exact}
 use Rattle.rules.specs.Laws.Kinds.{by-kind}

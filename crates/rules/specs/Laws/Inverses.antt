@@ -8,11 +8,12 @@ use native.Mathlib.Decide.{ℕ-discrete}
 use native.Mathlib.Omega.{arith}
 use lib.IntN.{ℤ, pos, _+ℤ_, _-ℤ_, _*ℤ_, +ℤ-negℤ-cancel, -ℤ-+ℤ-cancel}
 use lib.ListN.{length, set, length-set}
-use Rattle.whole.specs.Laws.{Sign, sign-sign}
+use Rattle.whole.specs.Stated.{Sign}
+use Rattle.whole.specs.Laws.{sign-sign}
 use Rattle.rules.specs.Numbers.{at}
 use Rattle.rules.specs.declared.Rule.{Rule}
 use Rattle.rules.specs.Stages.{R, fill, Stage, move, weigh, off, weighed, putBack, forward, recover, undo}
-use Rattle.rules.specs.Laws.GoodStages.{Permutes, has, InOrder, end, next, Recovers, Good, moves, weighs}
+use Rattle.rules.specs.GoodStages.{Permutes, has, InOrder, end, next, Recovers, Good, moves, weighs}
 use Rattle.rules.specs.Laws.Membership.{true-false, has-first, has-rest, has-more}
 use Rattle.rules.specs.Laws.Lists.{length-fill, fill-past, fill-at, same-list, set-at, set-other, off-self, off-zero}
 use Rattle.rules.specs.Laws.Lists.{weighed-agree}

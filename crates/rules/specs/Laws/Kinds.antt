@@ -9,7 +9,8 @@ use native.Mathlib.Decide.{ℕ-discrete, decLe}
 use native.Mathlib.Omega.{arith}
 use borrow.Author.Tests.{eq-eqb, ne-eqb, le-ltb}
 use lib.IntN.{pos, _*ℤ_, zero-*ℤ, *ℤ-zero}
-use Rattle.whole.specs.Laws.{Sign, signs-times}
+use Rattle.whole.specs.Stated.{Sign}
+use Rattle.whole.specs.Laws.{signs-times}
 use Rattle.rules.specs.declared.Kind.{Kind}
 use Rattle.rules.specs.declared.Kind.the-variants.{Permutation, Lower, Upper, Single}
 use Rattle.rules.specs.Numbers.{unit, unit²}
@@ -17,7 +18,8 @@ use Rattle.rules.specs.Factors.{Factor, hasEntry, matrix}
 use Rattle.rules.specs.Stages.{Stage}
 use Rattle.rules.specs.Shapes.{turn, order, inRow, stageOf, lineStage, lineStages, jointSource, jointSign, jointWeight}
 use Rattle.rules.specs.Shapes.{jointShared, jointStage, jointStages}
-use Rattle.rules.specs.Laws.GoodStages.{Permutes, Good, moves, weighs, AllGood, Sound, AllSound, AllMatch}
+use Rattle.rules.specs.GoodStages.{Permutes, Good, moves, weighs, AllGood}
+use Rattle.rules.specs.Laws.SoundFactors.{Sound, AllSound, AllMatch}
 use Rattle.rules.specs.Laws.RecoveryOrder.{Ranked, turns-recover}
 use Rattle.rules.specs.Laws.Rectangles.{row-below, col-below, same-element, pair-permutes}
 

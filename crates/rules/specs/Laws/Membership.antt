@@ -7,7 +7,7 @@ use Prim.Native.Nat.{ℕ}
 use native.Mathlib.Omega.{arith}
 use borrow.Author.Tests.{eq-eqb, ne-eqb}
 use lib.Dec.{eqb}
-use Rattle.rules.specs.Laws.GoodStages.{has}
+use Rattle.rules.specs.GoodStages.{has}
 
 pub true-false : {b : Bool} → b ≡ true → b ≡ false → ⊥
 true-false p q = let z : _≡_ {A = ℕ} 0 1 = cc in omega arith

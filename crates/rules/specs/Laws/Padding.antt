@@ -12,7 +12,7 @@ use Rattle.rules.specs.Numbers.{bound, mostAllowance, at}
 use Rattle.rules.specs.declared.Rule.{Rule}
 use Rattle.rules.specs.Stages.{R, fill, inside, Stage, off, weighed, putBack, forward, recover, undo, allow, Ran, done}
 use Rattle.rules.specs.Stages.{beyond, later, run, runForward, runInverse, runAllowance}
-use Rattle.rules.specs.Laws.GoodStages.{Permutes, has, Good, moves, weighs, AllGood}
+use Rattle.rules.specs.GoodStages.{Permutes, has, Good, moves, weighs, AllGood}
 use Rattle.rules.specs.Laws.Membership.{has-first, has-more}
 use Rattle.rules.specs.Laws.Lists.{length-fill}
 use Rattle.rules.specs.Laws.Inverses.{length-put, length-forward, length-undo}

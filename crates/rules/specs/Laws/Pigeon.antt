@@ -8,7 +8,7 @@ use native.Mathlib.Decide.{ℕ-discrete, decLt}
 use native.Mathlib.Omega.{arith}
 use borrow.Author.Tests.{eqb-true, eqb-false, ltb-true, ltb-false}
 use lib.Dec.{eqb, ltb}
-use Rattle.rules.specs.Laws.GoodStages.{Permutes}
+use Rattle.rules.specs.GoodStages.{Permutes}
 
 abbrev pub Apart : ℕ → (ℕ → ℕ) → Type 0
 Apart n p = (i j : ℕ) → i < j → j < n → p i ≢ p j

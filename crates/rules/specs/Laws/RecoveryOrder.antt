@@ -9,9 +9,9 @@ use native.Mathlib.Omega.{arith}
 use borrow.Author.Tests.{eq-eqb, ne-eqb, eqb-true}
 use lib.Dec.{eqb}
 use lib.IntN.{ℤ, pos}
-use Rattle.whole.specs.Laws.{Sign}
+use Rattle.whole.specs.Stated.{Sign}
 use Rattle.rules.specs.Shapes.{those, byTurn, turn}
-use Rattle.rules.specs.Laws.GoodStages.{has, InOrder, end, next, Recovers}
+use Rattle.rules.specs.GoodStages.{has, InOrder, end, next, Recovers}
 use Rattle.rules.specs.Laws.Membership.{true-false, has-none, has-first, has-more, has-left, has-right, has-either}
 
 -- ---- lists end to end

@@ -13,12 +13,13 @@ use lib.IntN.{ℤ, pos, natAbs, _+ℤ_, _-ℤ_, _*ℤ_}
 use lib.ListN.{length}
 use Rattle.whole.specs.Diff.{lia, lin, given₂}
 use Rattle.whole.specs.Laws.{distrib, abs-mul}
-use Rattle.whole.specs.Sum.{sum, sum-cong, sum-add, sum-scale, sum-split, sum-single, sum-swap}
+use Rattle.whole.specs.Stated.{sum}
+use Rattle.whole.specs.Sum.{sum-cong, sum-add, sum-scale, sum-split, sum-single, sum-swap}
 use Rattle.rules.specs.Numbers.{unit, unit², at}
 use Rattle.rules.specs.Factors.{Factor, matrix}
 use Rattle.rules.specs.Stages.{weigh, off, weighed, exact}
 use Rattle.rules.specs.Shapes.{jointSign, jointWeight}
-use Rattle.rules.specs.Laws.GoodStages.{Permutes}
+use Rattle.rules.specs.GoodStages.{Permutes}
 use Rattle.rules.specs.Laws.Lists.{fill-at}
 
 module _ (r c : ℕ) where

@@ -7,7 +7,7 @@ use Rattle.whole.specs.Floor.{shr-lo, shr-hi, shr-unique, nearest-near, nearest
 use Rattle.rules.specs.declared.Rule.{Rule}
 use Rattle.rules.specs.declared.Rule.the-variants.{Nearest}
 use Rattle.rules.specs.Stages.{R, Rounds, share}
-use Rattle.rules.specs.Laws.GoodStages.{Rounding}
+use Rattle.rules.specs.Laws.SoundFactors.{Rounding}
 
 pub rounds : (rule : Rule) (S : ℕ) (s : ℤ) → 0 < S → Rounds rule S s (R rule S s)
 unfolding R Rounds

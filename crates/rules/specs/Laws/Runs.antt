@@ -9,7 +9,7 @@ use lib.ListN.{length, length-reverse}
 use Rattle.rules.specs.Numbers.{bound, at}
 use Rattle.rules.specs.declared.Rule.{Rule}
 use Rattle.rules.specs.Stages.{inside, Stage, forward, undo, Ran, done, beyond, later, run, through, runForward, runInverse}
-use Rattle.rules.specs.Laws.GoodStages.{Good, AllGood}
+use Rattle.rules.specs.GoodStages.{Good, AllGood}
 use Rattle.rules.specs.Laws.Inverses.{length-forward, length-undo, undo-forward, forward-undo}
 
 -- a second run on what a first one of n stages gave: its refusal is n stages later

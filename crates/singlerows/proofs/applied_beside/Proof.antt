@@ -7,7 +7,7 @@ use mir.Facts.{toZ-ofZ}
 use mir.Syntax.{w32, w64}
 use mir.Val.{toZ, ofZ}
 use Rattle.whole.specs.Diff.{Within}
-use Rattle.whole.specs.Laws.{Sign}
+use Rattle.whole.specs.Stated.{Sign}
 use Rattle.whole.specs.Machine.{fits, reads, back, sign-within, within-sign, within-+}
 use Rattle.rules.specs.Numbers.{unit, bound, at}
 use Rattle.rules.specs.Stages.{R}

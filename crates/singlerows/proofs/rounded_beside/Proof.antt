@@ -5,7 +5,7 @@ use lib.IntN.{_*ℤ_}
 use mir.Facts.{toZ-ofZ}
 use mir.Syntax.{w64}
 use mir.Val.{SFits, toZ, ofZ}
-use Rattle.whole.specs.Laws.{Sign}
+use Rattle.whole.specs.Stated.{Sign}
 use Rattle.whole.specs.Machine.{fits, back, within-+, within-pos}
 use Rattle.singlerows.specs.SingleRows.{narrowSum, turned-sum-small, rounded-sum-small}
 use Rattle.singlerows.proofs.rounded_beside.Statement.{statement}

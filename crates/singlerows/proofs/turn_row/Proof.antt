@@ -6,7 +6,7 @@ use lib.IntN.{_*ℤ_}
 use mir.Facts.{toZ-ofZ}
 use mir.Syntax.{w32}
 use mir.Val.{toZ, ofZ}
-use Rattle.whole.specs.Laws.{Sign}
+use Rattle.whole.specs.Stated.{Sign}
 use Rattle.whole.specs.Machine.{fits, reads, back, within-sign}
 use Rattle.rules.specs.Numbers.{at}
 use Rattle.singlerows.specs.SingleRows.{Turned, sign-asks, both-sign}

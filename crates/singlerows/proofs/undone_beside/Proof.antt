@@ -4,7 +4,7 @@ use lib.IntN.{_*ℤ_}
 use mir.Facts.{toZ-ofZ}
 use mir.Syntax.{w32, w64}
 use mir.Val.{toZ, ofZ}
-use Rattle.whole.specs.Laws.{Sign}
+use Rattle.whole.specs.Stated.{Sign}
 use Rattle.whole.specs.Machine.{fits, back, within-sign, within--}
 use Rattle.rules.specs.Numbers.{unit, at}
 use Rattle.rules.specs.Stages.{R}

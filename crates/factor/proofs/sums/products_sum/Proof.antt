@@ -7,7 +7,7 @@ use lib.IntN.{_*ℤ_}
 use mir.Syntax.{w32, w64}
 use mir.Val.{ofZ}
 use Rattle.whole.specs.Machine.{fits, reads, within-+, within-*}
-use Rattle.whole.specs.Sum.{sum}
+use Rattle.whole.specs.Stated.{sum}
 use Rattle.rules.specs.Numbers.{at}
 use Rattle.factor.specs.SumBounds.{sum-small}
 use Rattle.factor.proofs.sums.products_sum.Statement.{statement}

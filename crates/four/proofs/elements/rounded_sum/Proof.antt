@@ -7,7 +7,7 @@ use lib.IntN.{ℤ, _*ℤ_}
 use mir.Syntax.{w32, w64}
 use mir.Val.{toZ, ofZ}
 use Rattle.whole.specs.Machine.{fits, back, within-+, within-pos}
-use Rattle.whole.specs.Sum.{sum}
+use Rattle.whole.specs.Stated.{sum}
 use Rattle.rules.specs.Numbers.{at}
 use Rattle.four.specs.Turns.{entryAt, rowSum}
 use Rattle.four.specs.TurnLaws.{terms-of-four, row-sum-small, rounded-sum-small}

@@ -5,7 +5,8 @@ use mir.Facts.{toZ-ofZ}
 use mir.Syntax.{w32, w64}
 use mir.Val.{toZ, ofZ}
 use Rattle.whole.specs.Machine.{fits, back, within--, sign-within, within-sign}
-use Rattle.whole.specs.Laws.{Sign, signs-times}
+use Rattle.whole.specs.Stated.{Sign}
+use Rattle.whole.specs.Laws.{signs-times}
 use Rattle.joint.specs.Elements.{signAt, roundedRest, undoneRest, rounded-rest-small}
 use borrow.Author.Needs.{needs}
 use Rattle.joint.proofs.elements.undone_at.Statement.{statement}

@@ -7,7 +7,7 @@ use mir.Facts.{toZ-ofZ}
 use mir.Syntax.{w64}
 use mir.Val.{toZ, ofZ}
 use Rattle.whole.specs.Diff.{lia, Within}
-use Rattle.whole.specs.Laws.{Sign}
+use Rattle.whole.specs.Stated.{Sign}
 use Rattle.whole.specs.Machine.{fits, reads, back, within-le, within-+, within-*, within-pos, sign-within}
 use Rattle.rules.specs.Numbers.{unit}
 use Rattle.joint.specs.Sums.{mostColumn}

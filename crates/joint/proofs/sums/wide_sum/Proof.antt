@@ -8,7 +8,7 @@ use borrow.Author.Needs.{needs}
 use mir.Syntax.{w32, w64}
 use mir.Val.{ofZ}
 use Rattle.whole.specs.Machine.{fits, reads, within-+, within-*}
-use Rattle.whole.specs.Sum.{sum}
+use Rattle.whole.specs.Stated.{sum}
 use Rattle.rules.specs.Numbers.{at}
 use Rattle.joint.specs.Sums.{wide-small}
 use Rattle.joint.proofs.sums.wide_sum.Statement.{statement}

@@ -10,7 +10,8 @@ use mir.Syntax.{w32, w64}
 use mir.Val.{toZ, ofZ}
 use Rattle.whole.specs.Diff.{lia, Within}
 use Rattle.whole.specs.Machine.{fits, reads, back, within-+, within-*}
-use Rattle.whole.specs.Sum.{sum, sum-cong}
+use Rattle.whole.specs.Stated.{sum}
+use Rattle.whole.specs.Sum.{sum-cong}
 use Rattle.rules.specs.Numbers.{mostEntry, at}
 use Rattle.joint.specs.Sums.{Wide, mostColumn, wide-small}
 use Rattle.trianglerows.specs.TrianglesUndone.{sum-head, wide-after}

@@ -10,7 +10,7 @@ use mir.Syntax.{w32, w64}
 use mir.Val.{toZ, ofZ}
 use Rattle.whole.specs.Diff.{lia, Within}
 use Rattle.whole.specs.Machine.{reads, back, within-le, within-*, within-pos, sign-within}
-use Rattle.whole.specs.Sum.{sum}
+use Rattle.whole.specs.Stated.{sum}
 use Rattle.rules.specs.Numbers.{unit, at}
 use Rattle.factor.specs.Layouts.{rowOf}
 use Rattle.joint.specs.Sums.{Wide, entriesSum, right-wide}
