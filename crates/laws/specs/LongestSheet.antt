@@ -1,7 +1,7 @@
 -- "The longest sheet has 4386 numbers": a sheet of that length is accepted. (`accepted-length` says that none is longer.)
 -- To compute the check of so many numbers takes a minute. So it is proved, of every factor at once.
 -- Assumes nothing.
-use mathlib.Core.List.{List, [], _∷_, _++_}
+use mathlib.Core.List.{List}
 use mathlib.Core.Path.{_≡_, refl, sym, ap, _∙_}
 use Prim.Native.Nat.{ℕ, zero, suc, _+_, _*_, _≤_, _<_}
 use native.Mathlib.Omega.{arith}
@@ -13,21 +13,10 @@ use Rattle.rules.specs.Numbers.{mostOrder, mostCount, at}
 use Rattle.rules.specs.Sheets.{faultOf, kindOf, triangle}
 use Rattle.rules.specs.Factors.{numbers, signsAt}
 use Rattle.rules.specs.Answers.{accepted, checked, further}
+use Rattle.laws.specs.Stated.Longest.{again, lowerFactor, longestSheet}
 use Rattle.laws.specs.Readers.{one-fine}
 use Rattle.laws.specs.Accepted.{stretch-of, entriesOf, never, FactorRead, Accepted, checked-accepted}
-use Rattle.laws.specs.Prefix.{longest, longestFactor}
-
--- the same numbers n times
-unfoldable pub again : ℕ → List ℤ → List ℤ
-again zero v = []
-again (suc n) v = v ++ again n v
-
--- order 16, and 32 lower factors, their signs and entries all 1
-abbrev pub lowerFactor : List ℤ
-lowerFactor = pos 2 ∷ replicate 136 (pos 1)
-
-abbrev pub longestSheet : List ℤ
-longestSheet = pos mostOrder ∷ pos mostCount ∷ again mostCount lowerFactor
+use Rattle.laws.specs.Prefix.{longestFactor}
 
 length-again : (n : ℕ) (v : List ℤ) → length (again n v) ≡ n * length v
 unfolding again
@@ -72,7 +61,7 @@ lower-further s m kind (suc f) l =
     rw (lower-further s m kind f (omega arith), kind f (omega arith)) (omega arith)
 
 -- ---- the sheet
-pub longest-length : length longestSheet ≡ longest
+pub longest-length : length longestSheet ≡ 4386
 longest-length = ap (λ (n : ℕ). suc (suc n)) (length-again mostCount lowerFactor)
 
 at-factor : (f k : ℕ) → f < mostCount → k < longestFactor → at longestSheet (2 + f * longestFactor + k) ≡ at lowerFactor k

@@ -1,3 +1,4 @@
 pub mod Calls
 pub mod Cuts
 pub mod Strips
+pub mod Longest
