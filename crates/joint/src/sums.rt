@@ -189,7 +189,8 @@ pub fn rest_sums(
     n: usize,
     v: &mut [i64; Block::LINE],
 )
-    requires { ⌜ RowIn (now a) mostOrder r m × (n ≤ mostOrder) × Bounded mostAllowance (now x) × (now v ≡ replicate mostOrder (pos 0)) ⌝ }
+    requires { ⌜ RowIn (now a) mostOrder r m × (n ≤ mostOrder) × Bounded mostAllowance (now x)
+        × (now v ≡ replicate mostOrder (pos 0)) ⌝ }
     ensures { λ _. ⌜ now (v .exit) ≡ restSums (now (a .entry)) r m (now (x .entry)) n ⌝ }
 {
     let at = r.at;

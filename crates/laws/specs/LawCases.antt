@@ -42,16 +42,18 @@ both = pos 2 ∷ pos 2 ∷ pos 2 ∷ pos 1 ∷ pos 1 ∷ pos 2048 ∷ pos 3 ∷ 
 
 -- the first coefficient of (0,-1), less that of (1,1), less that of their difference (-1,-2)
 abbrev apart : ℕ
-apart = natAbs ((at (F both (two (pos 0) (neg 1))) 0 -ℤ at (F both (two (pos 1) (pos 1))) 0) -ℤ at (F both (two (neg 1) (neg 2))) 0)
+apart =
+    natAbs
+    ((at (F both (two (pos 0) (neg 1))) 0 -ℤ at (F both (two (pos 1) (pos 1))) 0) -ℤ at (F both (two (neg 1) (neg 2))) 0)
 
 -- THE DIFFERENCE LAW NEEDS THREE ALLOWANCES: here two are too few
 pub two-are-too-few :
     (leb (unit * apart) (2 * natAbs (at (allowances both) 0)) ∷ leb (unit * apart) (3 * natAbs (at (allowances both) 0)) ∷ [])
     ≡ (false ∷ true ∷ [])
-unfolding sum go times among faultOf one kindOf triangle weights body factor closed head reading numbers signsAt above entriesBefore
-    factorAt factorsFrom factors hasEntry matrix R share ceiling fill inside off weighed multiples forward allow later run runForward
-    runAllowance those byTurn turn order inRow stageOf lineStage lineStages _or-else_ reply line ranAnswer ranMemory runReply
-    forwardCall allowanceCall
+unfolding sum go times among faultOf one kindOf triangle weights body factor closed head reading numbers signsAt above
+    entriesBefore factorAt factorsFrom factors hasEntry matrix R share ceiling fill inside off weighed multiples forward allow
+    later run runForward runAllowance those byTurn turn order inRow stageOf lineStage lineStages _or-else_ reply line ranAnswer
+    ranMemory runReply forwardCall allowanceCall
 two-are-too-few = refl
 
 -- a lower factor of two points, and a half exactly: document 01's sheet a
@@ -60,19 +62,20 @@ half = pos 2 ∷ pos 1 ∷ pos 2 ∷ pos 1 ∷ pos 1 ∷ pos 2048 ∷ []
 
 -- THE ALLOWANCE LAW HAS NOTHING TO SPARE: the second coefficient of (1,0) is off by its whole allowance
 pub whole-allowance :
-    pos (unit * natAbs ((pos (D (line half)) *ℤ at (F half (two (pos 1) (pos 0))) 1) -ℤ at (E (line half) (two (pos 1) (pos 0))) 1))
+    pos
+    (unit * natAbs ((pos (D (line half)) *ℤ at (F half (two (pos 1) (pos 0))) 1) -ℤ at (E (line half) (two (pos 1) (pos 0))) 1))
     ≡ pos (D (line half)) *ℤ at (allowances half) 1
-unfolding sum go times among faultOf one kindOf triangle weights body factor closed head reading numbers signsAt above entriesBefore
-    factorAt factorsFrom factors hasEntry matrix R share ceiling fill inside off weighed multiples forward allow scale exact later
-    run through runForward runAllowance exactProduct exactScale those byTurn turn order inRow stageOf lineStage lineStages _or-else_
-    reply line ranAnswer ranMemory runReply forwardCall allowanceCall
+unfolding sum go times among faultOf one kindOf triangle weights body factor closed head reading numbers signsAt above
+    entriesBefore factorAt factorsFrom factors hasEntry matrix R share ceiling fill inside off weighed multiples forward allow
+    scale exact later run through runForward runAllowance exactProduct exactScale those byTurn turn order inRow stageOf
+    lineStage lineStages _or-else_ reply line ranAnswer ranMemory runReply forwardCall allowanceCall
 whole-allowance = refl
 
 -- THE SCALE OF A PAIR is that of a product of two entries
 pub scales : (D (line both) ∷ D (joint both both) ∷ []) ≡ (unit ^ 2 ∷ unit² ^ 2 ∷ [])
-unfolding sum go times among faultOf one kindOf triangle weights body factor closed head reading numbers signsAt above entriesBefore
-    factorAt factorsFrom factors hasEntry matrix scale exactScale those byTurn turn order inRow stageOf lineStage lineStages
-    jointSource jointSign jointWeight jointShared jointStage jointStages line joint
+unfolding sum go times among faultOf one kindOf triangle weights body factor closed head reading numbers signsAt above
+    entriesBefore factorAt factorsFrom factors hasEntry matrix scale exactScale those byTurn turn order inRow stageOf lineStage
+    lineStages jointSource jointSign jointWeight jointShared jointStage jointStages line joint
 scales = refl
 
 -- ---- A CUT: the element 1 grows by the element 0, twice
@@ -98,9 +101,10 @@ pub cut-cases :
     ∷ record { answer = refused 11 0 1; memory = lent }
     ∷ record { answer = refused 11 0 1; memory = lent }
     ∷ [])
-unfolding sum go times among faultOf one kindOf triangle weights body factor closed head reading numbers signsAt above entriesBefore
-    factorAt factorsFrom factors hasEntry matrix R fill inside off weighed forward later run runForward those byTurn turn order inRow
-    stageOf lineStage lineStages _or-else_ further reply line ranAnswer ranMemory runReply forwardCall cut farther inTwo
+unfolding sum go times among faultOf one kindOf triangle weights body factor closed head reading numbers signsAt above
+    entriesBefore factorAt factorsFrom factors hasEntry matrix R fill inside off weighed forward later run runForward those
+    byTurn turn order inRow stageOf lineStage lineStages _or-else_ further reply line ranAnswer ranMemory runReply forwardCall
+    cut farther inTwo
 cut-cases = refl
 
 -- a strip of one block: the first part refuses it, and the second part runs on what the middle slice held, and writes that
@@ -113,8 +117,8 @@ pub strip-cut-case :
     ∷ record { answer = accepted; output = lent; bytes = 11 ∷ [] }
     ∷ record { answer = accepted; output = two (pos 9) (pos 18); bytes = 0 ∷ [] }
     ∷ [])
-unfolding sum go times among faultOf one kindOf triangle weights body factor closed head reading numbers signsAt above entriesBefore
-    factorAt factorsFrom factors hasEntry matrix R fill inside off weighed forward later run runForward those byTurn turn order inRow
-    stageOf lineStage lineStages _or-else_ further reply line ranAnswer ranMemory runReply forwardCall cut stripAnswer outputs bytesOf
-    strip
+unfolding sum go times among faultOf one kindOf triangle weights body factor closed head reading numbers signsAt above
+    entriesBefore factorAt factorsFrom factors hasEntry matrix R fill inside off weighed forward later run runForward those
+    byTurn turn order inRow stageOf lineStage lineStages _or-else_ further reply line ranAnswer ranMemory runReply forwardCall
+    cut stripAnswer outputs bytesOf strip
 strip-cut-case = refl

@@ -3,8 +3,8 @@
 ghost use mathlib.Core.Path.{_≡_};
 ghost use Rattle.rules.specs.Answers.{accepted, counted, refused};
 
-// A sheet: the numbers of one recipe. The limits of "Numbers and their bounds" that bound a sheet's numbers are named here. A call
-// is lent a sheet as a slice, so the type has no fields.
+// A sheet: the numbers of one recipe. The limits of "Numbers and their bounds" that bound a sheet's numbers are named here. A
+// call is lent a sheet as a slice, so the type has no fields.
 pub struct Sheet {}
 
 impl Sheet {

@@ -69,11 +69,12 @@ RunUndone rule c fa r fb i a b x y v ok =
     × (ok ≡ true → Recovered c fa i fb b y v)
 
 -- a run from turn a on stands before turn t, x₀ the block before it
-pub record Undoing (rule : Rule) (c : List ℤ) (fa : Layout) (r : List ℤ) (fb : Layout) (i a t : ℕ) (x₀ x v : List ℤ) : Type 0 where
-  pub from : a ≤ t
-  pub block : x ≡ inPlace (undoneOf rule c fa r fb) (onward (undoneTurn fb i) a) (t - a) x₀
-  pub small : Bounded bound x
-  pub recovered : Recovered c fa i fb t x v
+pub record Undoing (rule : Rule) (c : List ℤ) (fa : Layout) (r : List ℤ) (fb : Layout) (i a t : ℕ) (x₀ x v : List ℤ) : Type 0
+  where
+    pub from : a ≤ t
+    pub block : x ≡ inPlace (undoneOf rule c fa r fb) (onward (undoneTurn fb i) a) (t - a) x₀
+    pub small : Bounded bound x
+    pub recovered : Recovered c fa i fb t x v
 
 -- t turns of row i are done, x the block before it, y and v as they are now
 pub record UndoneTo (rule : Rule) (c : List ℤ) (fa : Layout) (r : List ℤ) (fb : Layout) (i : ℕ) (x : List ℤ) (t : ℕ)
@@ -225,8 +226,10 @@ module _ {rule : Rule} {c r x₀ v₀ x v : List ℤ} {fa fb : Layout} {i a t : 
   keeps = ap length (h .block) ∙ length-in-place _ _ (t - a) _
 
   pub undoing-ends : (b : ℕ) → t ≡ b → RunUndone rule c fa r fb i a b x₀ x v true
-  undoing-ends b e =
-      (record { through = λ w. (rw e at (h .block), h .small); stopped = λ w. apart w; keeps = keeps }, λ w. rw e at (h .recovered))
+  undoing-ends b e = (
+    record { through = λ w. (rw e at (h .block), h .small); stopped = λ w. apart w; keeps = keeps },
+    λ w. rw e at (h .recovered),
+  )
 
   -- turn t is that of the element in column j
   module _ (l : t < fb .order) {j : ℕ} (k : j < fb .order) (q : nthUndone (fb .kind) (fb .order) (fb .row) t ≡ j) where
@@ -242,7 +245,8 @@ module _ {rule : Rule} {c r x₀ v₀ x v : List ℤ} {fa fb : Layout} {i a t : 
         (recovered-sums-undo c fa i fb (g .low) (g .row .order) (g .column) (g .below) t l (h .recovered .sums) (g .row) rule))
         ∙ sym (undone-here rule c fa r fb x i j k)
 
-    pub undoing-stops : (b : ℕ) {w : List ℤ} → t < b → leb (natAbs (undoneOf rule c fa r fb x (i * fb .order + j))) bound ≡ false →
+    pub undoing-stops : (b : ℕ) {w : List ℤ} → t < b →
+        leb (natAbs (undoneOf rule c fa r fb x (i * fb .order + j))) bound ≡ false →
         RunUndone rule c fa r fb i a b x₀ x w false
     undoing-stops b m far = (
       record {

@@ -17,7 +17,8 @@ element-copy-out-both-signs c = search needs
 both-signs-requires : tie.Need-both-signs-requires
 both-signs-requires c κs =
     let s = c .before in
-    rw (reads w32 (sign-within (s .pre .2)) tt, toZ-ofZ (s .fits .d)) (fits (sign-within (signs-times (s .pre .1) (s .pre .2))) tt)
+    rw (reads w32 (sign-within (s .pre .2)) tt, toZ-ofZ (s .fits .d))
+    (fits (sign-within (signs-times (s .pre .1) (s .pre .2))) tt)
 
 returns : tie.Need-returns
 returns c =

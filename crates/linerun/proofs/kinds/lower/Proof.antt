@@ -117,7 +117,8 @@ loop-again c =
       omega arith,
       l .loop .inv .1,
       let e : triangle (l .loop .m + 1) ≡ triangle (l .loop .m) + l .loop .m = rw add-one in omega (arith, l .loop .inv .2),
-      filled-next (fills s) (turn i) (value (c .before)) (c .before .apply-at .ensures) (l .loop .inv .3) (not-false _ (c .if1 .left)),
+      filled-next (fills s) (turn i) (value (c .before)) (c .before .apply-at .ensures) (l .loop .inv .3)
+          (not-false _ (c .if1 .left)),
     )
 
 returns-2 : tie.Need-returns-2 Inv-loop μ-loop

@@ -97,7 +97,8 @@ loop-again c =
     let s = l .before in (
       omega arith,
       l .loop .inv .1,
-      filled-next (fills s) (turn i) (value (c .before)) (c .before .apply-at .ensures) (l .loop .inv .2) (not-false _ (c .if1 .left)),
+      filled-next (fills s) (turn i) (value (c .before)) (c .before .apply-at .ensures) (l .loop .inv .2)
+          (not-false _ (c .if1 .left)),
     )
 
 returns-2 : tie.Need-returns-2 Inv-loop μ-loop

@@ -84,7 +84,8 @@ undo-at-requires c κs =
     let l = i .before in
     let s = l .before in (
       (s .pre .0, (small-place i0), l .loop .inv .2 .small),
-      rw (sum (c .before)) (rounded-sum-small (s .pre .0) (i0 .nth-undone .result) (small-place i0) (s .args .rule) (l .loop .inv .2 .small)),
+      rw (sum (c .before)) (rounded-sum-small (s .pre .0) (i0 .nth-undone .result) (small-place i0) (s .args .rule)
+          (l .loop .inv .2 .small)),
     )
 
 -- what the element was
@@ -96,13 +97,20 @@ value :
     let q = c .before .before .single-sum .result in
     at (s .args .sheet .now) (s .args .f .signs + m) *ℤ (at (l .loop .x) m -ℤ toZ w64 (ofZ w64 q)) ≡ F s (l .loop .t)
 unfolding undoneAt
-value c = rw (sum (c .before .before), c .before .before .before .before .nth-undone .ensures, c .before .before .before .before .before .before .loop .inv .2 .is)
+value c = rw (
+  sum (c .before .before),
+  c .before .before .before .before .nth-undone .ensures,
+  c .before .before .before .before
+      .before .before .loop .inv .2 .is,
+)
 
 returns : tie.Need-returns Inv-loop μ-loop
 returns c =
     let i = c .before .before .before .before .before .before in
     let l = i .before in
-    filled-refused (fills (l .before)) (turn i) (value (c .before)) (rw (c .before .before .before .before .before .nth-undone .ensures) at (c .before .undo-at .ensures)) (not-true _ (c .if1 .taken))
+    filled-refused (fills (l .before)) (turn i) (value (c .before))
+    (rw (c .before .before .before .before .before .nth-undone .ensures) at (c .before .undo-at .ensures))
+    (not-true _ (c .if1 .taken))
 
 add-t : tie.Need-add-t Inv-loop μ-loop
 add-t c = omega arith
@@ -118,7 +126,8 @@ loop-again c =
     let s = l .before in (
       omega arith,
       l .loop .inv .1,
-      filled-next (fills s) (turn i) (value (c .before)) (rw (c .before .before .before .before .before .nth-undone .ensures) at (c .before .undo-at .ensures)) (l .loop .inv .2)
+      filled-next (fills s) (turn i) (value (c .before))
+          (rw (c .before .before .before .before .before .nth-undone .ensures) at (c .before .undo-at .ensures)) (l .loop .inv .2)
           (not-false _ (c .if1 .left)),
     )
 
@@ -130,4 +139,5 @@ returns-2 c =
 pub single-back-spec : {M : Type 1} → statement M
 single-back-spec =
     tie.close
-    (tie.spec Inv-loop μ-loop loop-holds nth-undone-requires single-sum-requires undo-at-requires returns add-t loop-less loop-again returns-2)
+    (tie.spec Inv-loop μ-loop loop-holds nth-undone-requires single-sum-requires undo-at-requires returns add-t loop-less
+    loop-again returns-2)

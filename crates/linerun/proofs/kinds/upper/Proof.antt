@@ -133,7 +133,8 @@ loop-again c =
       let e : above (s .args .f .order) (l .loop .m + 1) ≡ above (s .args .f .order) (l .loop .m) +
           (s .args .f .order - suc (l .loop .m)) = rw add-one in let h = turn i in omega
           (arith, l .loop .inv .1, l .loop .inv .2),
-      filled-next (fills s) (turn i) (value (c .before)) (c .before .apply-at .ensures) (l .loop .inv .3) (not-false _ (c .if1 .left)),
+      filled-next (fills s) (turn i) (value (c .before)) (c .before .apply-at .ensures) (l .loop .inv .3)
+          (not-false _ (c .if1 .left)),
     )
 
 returns-2 : tie.Need-returns-2 Inv-loop μ-loop
@@ -144,4 +145,5 @@ returns-2 c =
 pub upper-spec : {M : Type 1} → statement M
 upper-spec =
     tie.close
-    (tie.spec Inv-loop μ-loop loop-holds right-sum-requires apply-at-requires returns sub-p sub-p-2 add-p add-m loop-less loop-again returns-2)
+    (tie.spec Inv-loop μ-loop loop-holds right-sum-requires apply-at-requires returns sub-p sub-p-2 add-p add-m loop-less
+    loop-again returns-2)

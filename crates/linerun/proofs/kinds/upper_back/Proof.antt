@@ -24,7 +24,8 @@ use Rattle.linerun.proofs.kinds.upper_back.Tie as tie
 
 abbrev Inv-loop : tie.InvT-loop
 Inv-loop rule sheet f n x₀ p₀ t₀ x p t =
-    (t ≤ n) × (n ≡ f .order) × (p ≡ f .entries + above (f .order) (f .order - t)) × Filled (λ k. undoneInPlace rule sheet f k x₀) t
+    (t ≤ n) × (n ≡ f .order) × (p ≡ f .entries + above (f .order) (f .order - t)) × Filled (λ k. undoneInPlace rule sheet f k x₀)
+    t
     x
 
 abbrev μ-loop : tie.MeasureT-loop
@@ -127,7 +128,8 @@ undo-at-requires c κs =
     let l = i .before in
     let s = l .before .before .before in (
       (s .pre .0, (let t = turn i in omega arith), l .loop .inv .3 .small),
-      rw (sum (c .before)) (rounded-sum-small (s .pre .0) (s .args .f .order - 1 - l .loop .t) (let t = turn i in omega arith) (s .args .rule) (l .loop .inv .3 .small)),
+      rw (sum (c .before)) (rounded-sum-small (s .pre .0) (s .args .f .order - 1 - l .loop .t) (let t = turn i in omega arith)
+          (s .args .rule) (l .loop .inv .3 .small)),
     )
 
 -- what the element was
@@ -145,7 +147,8 @@ returns : tie.Need-returns Inv-loop μ-loop
 returns c =
     let i = c .before .before .before .before .before in
     let l = i .before in
-    filled-refused (fills (l .before .before .before)) (turn i) (value (c .before)) (c .before .undo-at .ensures) (not-true _ (c .if1 .taken))
+    filled-refused (fills (l .before .before .before)) (turn i) (value (c .before)) (c .before .undo-at .ensures)
+    (not-true _ (c .if1 .taken))
 
 add-t : tie.Need-add-t Inv-loop μ-loop
 add-t c = omega arith
@@ -175,4 +178,5 @@ returns-2 c =
 pub upper-back-spec : {M : Type 1} → statement M
 upper-back-spec =
     tie.close
-    (tie.spec Inv-loop μ-loop before-lower-requires add-p loop-holds sub-m sub-m-2 sub-p right-sum-requires undo-at-requires returns add-t loop-less loop-again returns-2)
+    (tie.spec Inv-loop μ-loop before-lower-requires add-p loop-holds sub-m sub-m-2 sub-p right-sum-requires undo-at-requires
+    returns add-t loop-less loop-again returns-2)

@@ -40,7 +40,8 @@ applied-requires c κs =
 value :
     (c : tie.After-applied) →
     let s = c .before .before .before in
-    toZ w64 (ofZ w64 (c .applied .result)) ≡ (at (s .args .sheet .now) (s .args .f .signs + s .args .m) *ℤ at (s .args .x .now) (s .args .m)) +ℤ s .args .q
+    toZ w64 (ofZ w64 (c .applied .result)) ≡
+    (at (s .args .sheet .now) (s .args .f .signs + s .args .m) *ℤ at (s .args .x .now) (s .args .m)) +ℤ s .args .q
 value c =
     let s = c .before .before .before in
     let d = s .pre .0 .0 .sign (s .args .m) (s .pre .0 .1) in
@@ -56,5 +57,6 @@ returns c = rw (value (c .before .before)) at (c .keep .ensures)
 pub apply-at-spec : {M : Type 1} → statement M
 apply-at-spec =
     tie.close
-    (tie.spec add-applied mul-applied shared-slice-copy-out-applied mul-applied-2 element-copy-out-applied applied-requires keep-requires
+    (tie.spec add-applied mul-applied shared-slice-copy-out-applied mul-applied-2 element-copy-out-applied applied-requires
+    keep-requires
     returns)

@@ -40,7 +40,8 @@ undone-requires c κs =
 value :
     (c : tie.After-undone) →
     let s = c .before .before .before in
-    toZ w64 (ofZ w64 (c .undone .result)) ≡ at (s .args .sheet .now) (s .args .f .signs + s .args .m) *ℤ (at (s .args .x .now) (s .args .m) -ℤ s .args .q)
+    toZ w64 (ofZ w64 (c .undone .result)) ≡ at (s .args .sheet .now) (s .args .f .signs + s .args .m) *ℤ
+    (at (s .args .x .now) (s .args .m) -ℤ s .args .q)
 value c =
     let s = c .before .before .before in
     let d = s .pre .0 .0 .sign (s .args .m) (s .pre .0 .1) in
@@ -56,5 +57,6 @@ returns c = rw (value (c .before .before)) at (c .keep .ensures)
 pub undo-at-spec : {M : Type 1} → statement M
 undo-at-spec =
     tie.close
-    (tie.spec add-undone mul-undone shared-slice-copy-out-undone mul-undone-2 element-copy-out-undone undone-requires keep-requires
+    (tie.spec add-undone mul-undone shared-slice-copy-out-undone mul-undone-2 element-copy-out-undone undone-requires
+    keep-requires
     returns)

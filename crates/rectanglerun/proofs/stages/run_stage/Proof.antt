@@ -51,7 +51,8 @@ module _ (l : tie.After-layout-at2) {kind : Kind} (k : l .layout-at2 .result .ki
       (factorAt (s .args .row .now) (s .args .n2) (s .args .j))) (s .args .x .now)) ok y
       × (length y ≡ 256)
   told w =
-      stage-weighed (s .pre .0) (l .before .layout-at .ensures) (l .layout-at2 .ensures) k m (s .args .run) t (s .pre .1) (s .pre .2)
+      stage-weighed (s .pre .0) (l .before .layout-at .ensures) (l .layout-at2 .ensures) k m (s .args .run) t (s .pre .1)
+      (s .pre .2)
       w
 
 enum-told : tie.Need-enum-told
@@ -62,39 +63,51 @@ enum-told-2 c = search needs
 
 apply-lower-rows-requires : tie.Need-apply-lower-rows-requires
 unfolding isMove
-apply-lower-rows-requires c κs = let t = c .before in let k = t .before .before in (asks (k .before .before) (k .enum-told .given .1) refl (t .enum-told2 .given .1), k .enum-told .given .1)
+apply-lower-rows-requires c κs =
+    let t = c .before in
+    let k = t .before .before in
+    (asks (k .before .before) (k .enum-told .given .1) refl (t .enum-told2 .given .1), k .enum-told .given .1)
 
 returns : tie.Need-returns
 unfolding isMove
 returns c =
     let t = c .before .before in
-    let k = t .before .before in told (k .before .before) (k .enum-told .given .1) refl (t .enum-told2 .given .1) (c .apply-lower-rows .ensures)
+    let k = t .before .before in
+    told (k .before .before) (k .enum-told .given .1) refl (t .enum-told2 .given .1) (c .apply-lower-rows .ensures)
 
 enum-told-3 : tie.Need-enum-told-3
 enum-told-3 c = search needs
 
 undo-lower-rows-requires : tie.Need-undo-lower-rows-requires
 unfolding isMove
-undo-lower-rows-requires c κs = let t = c .before in let k = t .before .before in (asks (k .before .before) (k .enum-told .given .1) refl (t .enum-told3 .given .1), k .enum-told .given .1)
+undo-lower-rows-requires c κs =
+    let t = c .before in
+    let k = t .before .before in
+    (asks (k .before .before) (k .enum-told .given .1) refl (t .enum-told3 .given .1), k .enum-told .given .1)
 
 returns-2 : tie.Need-returns-2
 unfolding isMove
 returns-2 c =
     let t = c .before .before in
-    let k = t .before .before in told (k .before .before) (k .enum-told .given .1) refl (t .enum-told3 .given .1) (c .undo-lower-rows .ensures)
+    let k = t .before .before in
+    told (k .before .before) (k .enum-told .given .1) refl (t .enum-told3 .given .1) (c .undo-lower-rows .ensures)
 
 enum-told-4 : tie.Need-enum-told-4
 enum-told-4 c = search needs
 
 allow-rows-requires : tie.Need-allow-rows-requires
 unfolding isMove
-allow-rows-requires c κs = let t = c .before in let k = t .before .before in asks (k .before .before) (k .enum-told .given .1) refl (t .enum-told4 .given .1)
+allow-rows-requires c κs =
+    let t = c .before in
+    let k = t .before .before in
+    asks (k .before .before) (k .enum-told .given .1) refl (t .enum-told4 .given .1)
 
 returns-3 : tie.Need-returns-3
 unfolding isMove
 returns-3 c =
     let t = c .before .before in
-    let k = t .before .before in told (k .before .before) (k .enum-told .given .1) refl (t .enum-told4 .given .1) (c .allow-rows .ensures)
+    let k = t .before .before in
+    told (k .before .before) (k .enum-told .given .1) refl (t .enum-told4 .given .1) (c .allow-rows .ensures)
 
 enum-told-5 : tie.Need-enum-told-5
 enum-told-5 c = search needs
@@ -104,39 +117,51 @@ enum-told-6 c = search needs
 
 apply-upper-rows-requires : tie.Need-apply-upper-rows-requires
 unfolding isMove
-apply-upper-rows-requires c κs = let t = c .before in let k = t .before .before in (asks (k .before .before) (k .enum-told5 .given .1) refl (t .enum-told6 .given .1), k .enum-told5 .given .1)
+apply-upper-rows-requires c κs =
+    let t = c .before in
+    let k = t .before .before in
+    (asks (k .before .before) (k .enum-told5 .given .1) refl (t .enum-told6 .given .1), k .enum-told5 .given .1)
 
 returns-4 : tie.Need-returns-4
 unfolding isMove
 returns-4 c =
     let t = c .before .before in
-    let k = t .before .before in told (k .before .before) (k .enum-told5 .given .1) refl (t .enum-told6 .given .1) (c .apply-upper-rows .ensures)
+    let k = t .before .before in
+    told (k .before .before) (k .enum-told5 .given .1) refl (t .enum-told6 .given .1) (c .apply-upper-rows .ensures)
 
 enum-told-7 : tie.Need-enum-told-7
 enum-told-7 c = search needs
 
 undo-upper-rows-requires : tie.Need-undo-upper-rows-requires
 unfolding isMove
-undo-upper-rows-requires c κs = let t = c .before in let k = t .before .before in (asks (k .before .before) (k .enum-told5 .given .1) refl (t .enum-told7 .given .1), k .enum-told5 .given .1)
+undo-upper-rows-requires c κs =
+    let t = c .before in
+    let k = t .before .before in
+    (asks (k .before .before) (k .enum-told5 .given .1) refl (t .enum-told7 .given .1), k .enum-told5 .given .1)
 
 returns-5 : tie.Need-returns-5
 unfolding isMove
 returns-5 c =
     let t = c .before .before in
-    let k = t .before .before in told (k .before .before) (k .enum-told5 .given .1) refl (t .enum-told7 .given .1) (c .undo-upper-rows .ensures)
+    let k = t .before .before in
+    told (k .before .before) (k .enum-told5 .given .1) refl (t .enum-told7 .given .1) (c .undo-upper-rows .ensures)
 
 enum-told-8 : tie.Need-enum-told-8
 enum-told-8 c = search needs
 
 allow-rows-requires-2 : tie.Need-allow-rows-requires-2
 unfolding isMove
-allow-rows-requires-2 c κs = let t = c .before in let k = t .before .before in asks (k .before .before) (k .enum-told5 .given .1) refl (t .enum-told8 .given .1)
+allow-rows-requires-2 c κs =
+    let t = c .before in
+    let k = t .before .before in
+    asks (k .before .before) (k .enum-told5 .given .1) refl (t .enum-told8 .given .1)
 
 returns-6 : tie.Need-returns-6
 unfolding isMove
 returns-6 c =
     let t = c .before .before in
-    let k = t .before .before in told (k .before .before) (k .enum-told5 .given .1) refl (t .enum-told8 .given .1) (c .allow-rows2 .ensures)
+    let k = t .before .before in
+    told (k .before .before) (k .enum-told5 .given .1) refl (t .enum-told8 .given .1) (c .allow-rows2 .ensures)
 
 enum-told-9 : tie.Need-enum-told-9
 enum-told-9 c = search needs
@@ -146,39 +171,51 @@ enum-told-10 c = search needs
 
 apply-single-rows-requires : tie.Need-apply-single-rows-requires
 unfolding isMove
-apply-single-rows-requires c κs = let t = c .before in let k = t .before .before in (asks (k .before .before) (k .enum-told9 .given .1) refl (t .enum-told10 .given .1), k .enum-told9 .given .1)
+apply-single-rows-requires c κs =
+    let t = c .before in
+    let k = t .before .before in
+    (asks (k .before .before) (k .enum-told9 .given .1) refl (t .enum-told10 .given .1), k .enum-told9 .given .1)
 
 returns-7 : tie.Need-returns-7
 unfolding isMove
 returns-7 c =
     let t = c .before .before in
-    let k = t .before .before in told (k .before .before) (k .enum-told9 .given .1) refl (t .enum-told10 .given .1) (c .apply-single-rows .ensures)
+    let k = t .before .before in
+    told (k .before .before) (k .enum-told9 .given .1) refl (t .enum-told10 .given .1) (c .apply-single-rows .ensures)
 
 enum-told-11 : tie.Need-enum-told-11
 enum-told-11 c = search needs
 
 undo-single-rows-requires : tie.Need-undo-single-rows-requires
 unfolding isMove
-undo-single-rows-requires c κs = let t = c .before in let k = t .before .before in (asks (k .before .before) (k .enum-told9 .given .1) refl (t .enum-told11 .given .1), k .enum-told9 .given .1)
+undo-single-rows-requires c κs =
+    let t = c .before in
+    let k = t .before .before in
+    (asks (k .before .before) (k .enum-told9 .given .1) refl (t .enum-told11 .given .1), k .enum-told9 .given .1)
 
 returns-8 : tie.Need-returns-8
 unfolding isMove
 returns-8 c =
     let t = c .before .before in
-    let k = t .before .before in told (k .before .before) (k .enum-told9 .given .1) refl (t .enum-told11 .given .1) (c .undo-single-rows .ensures)
+    let k = t .before .before in
+    told (k .before .before) (k .enum-told9 .given .1) refl (t .enum-told11 .given .1) (c .undo-single-rows .ensures)
 
 enum-told-12 : tie.Need-enum-told-12
 enum-told-12 c = search needs
 
 allow-rows-requires-3 : tie.Need-allow-rows-requires-3
 unfolding isMove
-allow-rows-requires-3 c κs = let t = c .before in let k = t .before .before in asks (k .before .before) (k .enum-told9 .given .1) refl (t .enum-told12 .given .1)
+allow-rows-requires-3 c κs =
+    let t = c .before in
+    let k = t .before .before in
+    asks (k .before .before) (k .enum-told9 .given .1) refl (t .enum-told12 .given .1)
 
 returns-9 : tie.Need-returns-9
 unfolding isMove
 returns-9 c =
     let t = c .before .before in
-    let k = t .before .before in told (k .before .before) (k .enum-told9 .given .1) refl (t .enum-told12 .given .1) (c .allow-rows3 .ensures)
+    let k = t .before .before in
+    told (k .before .before) (k .enum-told9 .given .1) refl (t .enum-told12 .given .1) (c .allow-rows3 .ensures)
 
 enum-told-13 : tie.Need-enum-told-13
 enum-told-13 c = search needs
@@ -210,4 +247,8 @@ returns-10 c =
 pub run-stage-spec : {M : Type 1} → statement M
 run-stage-spec =
     tie.close
-    (tie.spec layout-at-requires layout-at-requires-2 enum-told enum-told-2 apply-lower-rows-requires returns enum-told-3 undo-lower-rows-requires returns-2 enum-told-4 allow-rows-requires returns-3 enum-told-5 enum-told-6 apply-upper-rows-requires returns-4 enum-told-7 undo-upper-rows-requires returns-5 enum-told-8 allow-rows-requires-2 returns-6 enum-told-9 enum-told-10 apply-single-rows-requires returns-7 enum-told-11 undo-single-rows-requires returns-8 enum-told-12 allow-rows-requires-3 returns-9 enum-told-13 move-pair-requires returns-10)
+    (tie.spec layout-at-requires layout-at-requires-2 enum-told enum-told-2 apply-lower-rows-requires returns enum-told-3
+    undo-lower-rows-requires returns-2 enum-told-4 allow-rows-requires returns-3 enum-told-5 enum-told-6 apply-upper-rows-requires
+    returns-4 enum-told-7 undo-upper-rows-requires returns-5 enum-told-8 allow-rows-requires-2 returns-6 enum-told-9 enum-told-10
+    apply-single-rows-requires returns-7 enum-told-11 undo-single-rows-requires returns-8 enum-told-12 allow-rows-requires-3
+    returns-9 enum-told-13 move-pair-requires returns-10)

@@ -17,7 +17,14 @@ use Rattle.joint.specs.Elements.{signAt, diagonalOf, undoneOf, rest-element-sma
 use Rattle.joint.specs.RowsInPlace.{in-block}
 use Rattle.joint.specs.Triangles.{totalOf, lower-at, lower-left, lower-next}
 use Rattle.trianglerows.specs.TrianglesUndone.{recentOf, recent-next, lower-turn}
-use Rattle.trianglerows.specs.TrianglesUndone.{Undoing, undoing-starts, undoing-value, undoing-stops, undoing-next, undoing-ends}
+use Rattle.trianglerows.specs.TrianglesUndone.{
+  Undoing,
+  undoing-starts,
+  undoing-value,
+  undoing-stops,
+  undoing-next,
+  undoing-ends,
+}
 use Rattle.trianglerows.proofs.undone.undo_lower.Statement.{statement}
 use Rattle.trianglerows.proofs.undone.undo_lower.Tie as tie
 

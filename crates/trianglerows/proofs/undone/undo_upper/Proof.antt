@@ -19,7 +19,14 @@ use Rattle.joint.specs.Elements.{signAt, diagonalOf, undoneOf, rest-element-sma
 use Rattle.joint.specs.RowsInPlace.{in-block}
 use Rattle.joint.specs.Triangles.{totalOf, upper-at, upper-left, upper-right}
 use Rattle.trianglerows.specs.TrianglesUndone.{recentOf, recent-some, recent-next, upper-turn, above-step}
-use Rattle.trianglerows.specs.TrianglesUndone.{Undoing, undoing-starts, undoing-value, undoing-stops, undoing-next, undoing-ends}
+use Rattle.trianglerows.specs.TrianglesUndone.{
+  Undoing,
+  undoing-starts,
+  undoing-value,
+  undoing-stops,
+  undoing-next,
+  undoing-ends,
+}
 use Rattle.trianglerows.proofs.undone.undo_upper.Statement.{statement}
 use Rattle.trianglerows.proofs.undone.undo_upper.Tie as tie
 
