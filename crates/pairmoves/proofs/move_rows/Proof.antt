@@ -61,11 +61,10 @@ move-row-requires c κs =
     let l = e .before .before .before in
     let s = l .before in
     let room = s .pre .2 in
-    let room′ = s .pre .3 in (
-      s .pre .1,
-      omega (arith, from-inside f),
-      omega (arith, to-inside e, l .loop .inv .1 .long),
-    )
+    let room′ = s .pre .3 in
+    let long = l .loop .inv .1 .long in
+    let from = from-inside f in
+    let to = to-inside e in (s .pre .1, omega arith, omega arith)
 
 add-i : tie.Need-add-i Inv-loop μ-loop
 add-i c = omega arith

@@ -44,7 +44,7 @@ returns-2 c =
     let b = k .before .before .before .before .args .input .now in
     let n = k .scan .ensures in
     wrote-as (p .put-refusal2 .ensures)
-    (ap refusal (r .refused2 .ensures) ∙ printed-cut b (k .scan .result .place) (omega arith) (n .place-is) (omega arith))
+    (ap refusal (r .refused2 .ensures) ∙ printed-cut b _ (omega arith) (omega (arith, n .place-is)) (omega arith))
 
 put-decoded-requires : tie.Need-put-decoded-requires
 put-decoded-requires c κs =
