@@ -270,14 +270,13 @@ pub record Paired (c r : List ℤ) (n1 n2 i j : ℕ) : Type 0 where
   pub row : FactorRead r n2 j
   pub match : kindOf (count c i) ≡ kindOf (count r j)
 
--- ---- a pair of factors with weights, as the code learns it: by its layouts and its kind
+-- ---- a pair of factors with weights, as the code learns it: by its layouts
 module _ {c r : List ℤ} {n1 n2 i j : ℕ} (p : Paired c r n1 n2 i j) {fa fb : Layout} (ea : fa ≡ layoutAt c n1 i)
-    (eb : fb ≡ layoutAt r n2 j) {kind : Kind} (k : fb .kind ≡ kind) (m : isMove kind ≡ false) (run : Run) {task : Task}
-    (t : run .task ≡ task)
+    (eb : fb ≡ layoutAt r n2 j) (m : isMove (fb .kind) ≡ false) (run : Run) {task : Task} (t : run .task ≡ task)
     {x : List ℤ} (small : Bounded (limitOf (run .task)) x) (long : length x ≡ 256) where
   weighs : kindOf (count r j) ≢ Permutation
   unfolding layoutAt layoutBy
-  weighs = move-no _ (ap isMove (sym (ap (λ (f : Layout). f .kind) eb) ∙ k) ∙ m)
+  weighs = move-no _ (ap (λ (f : Layout). isMove (f .kind)) (sym eb) ∙ m)
 
   pub stage-asks : Weighable task c fa r fb x
   unfolding layoutAt layoutBy

@@ -16,6 +16,7 @@ use crate::triangles::apply_lower_rows;
 use crate::triangles::apply_upper_rows;
 use crate::triangles::undo_lower_rows;
 use crate::triangles::undo_upper_rows;
+use factor::is_move;
 use factor::layout_at;
 use factor::run::Outcome;
 use factor::run::Run;
@@ -26,7 +27,7 @@ use rules::Kind;
 
 // A pair of permutations moves the numbers, and can leave no bound. A pair of factors with weights makes new ones, row by row; it
 // stops at the first number beyond the bound, and the block is not looked at again then: later sums could leave 64 bits.
-// All kinds and tasks are told apart in this one function. So the compiler keeps it apart from the function that holds the block,
+// All tasks and kinds are told apart in this one function. So the compiler keeps it apart from the function that holds the block,
 // and its rows share one frame.
 pub fn run_stage(
     run: Run,
@@ -47,26 +48,24 @@ pub fn run_stage(
     let rule = run.rule;
     let fa = layout_at(col, n1, i);
     let fb = layout_at(row, n2, j);
+    if is_move(fb) {
+        move_pair(col, fa, row, fb, task, x);
+        return Outcome { ok: true, stage: 0 };
+    }
     let kind = fb.kind;
-    match kind {
-        Kind::Lower => match task {
-            Task::Forward => return apply_lower_rows(rule, col, fa, row, fb, x),
-            Task::Inverse => return undo_lower_rows(rule, col, fa, row, fb, x),
-            Task::Allowance => return allow_rows(rule, col, fa, row, fb, x),
+    match task {
+        Task::Forward => match kind {
+            Kind::Lower => return apply_lower_rows(rule, col, fa, row, fb, x),
+            Kind::Upper => return apply_upper_rows(rule, col, fa, row, fb, x),
+            Kind::Single => return apply_single_rows(rule, col, fa, row, fb, x),
+            Kind::Permutation => return Outcome { ok: true, stage: 0 }
         },
-        Kind::Upper => match task {
-            Task::Forward => return apply_upper_rows(rule, col, fa, row, fb, x),
-            Task::Inverse => return undo_upper_rows(rule, col, fa, row, fb, x),
-            Task::Allowance => return allow_rows(rule, col, fa, row, fb, x),
+        Task::Inverse => match kind {
+            Kind::Lower => return undo_lower_rows(rule, col, fa, row, fb, x),
+            Kind::Upper => return undo_upper_rows(rule, col, fa, row, fb, x),
+            Kind::Single => return undo_single_rows(rule, col, fa, row, fb, x),
+            Kind::Permutation => return Outcome { ok: true, stage: 0 }
         },
-        Kind::Single => match task {
-            Task::Forward => return apply_single_rows(rule, col, fa, row, fb, x),
-            Task::Inverse => return undo_single_rows(rule, col, fa, row, fb, x),
-            Task::Allowance => return allow_rows(rule, col, fa, row, fb, x),
-        },
-        Kind::Permutation => {
-            move_pair(col, fa, row, fb, task, x);
-            return Outcome { ok: true, stage: 0 };
-        }
+        Task::Allowance => return allow_rows(rule, col, fa, row, fb, x),
     }
 }

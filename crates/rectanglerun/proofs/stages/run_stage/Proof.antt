@@ -2,11 +2,13 @@
 use borrow.Author.Needs.{needs}
 use mathlib.Core.Bool.{Bool, false}
 use mathlib.Core.List.{List}
-use mathlib.Core.Path.{_≡_, refl, sym, ap, _∙_}
+use mathlib.Core.Path.{_≡_, sym, ap, _∙_}
 use Prim.Native.Nat.{_*_}
 use lib.IntN.{ℤ}
 use lib.ListN.{length}
-use Rattle.rules.specs.declared.Kind.{Kind}
+use Rattle.rules.specs.declared.Kind.the-variants.{Permutation}
+use Rattle.rules.specs.Numbers.{mostCells, count}
+use Rattle.rules.specs.Sheets.{kindOf}
 use Rattle.rules.specs.Factors.{factorAt}
 use Rattle.rules.specs.Shapes.{jointStage}
 use Rattle.factor.specs.declared.Layout.{Layout}
@@ -15,7 +17,7 @@ use Rattle.factor.specs.Tasks.{limitOf, takenBy}
 use Rattle.factor.specs.Layouts.{layoutBy, layoutAt, isMove}
 use Rattle.factor.specs.Steps.{Step, step-moves}
 use Rattle.factor.specs.MovedInPlace.{moved-bounded, moved-scattered, length-scattered}
-use Rattle.factor.specs.LayoutInSheet.{moves}
+use Rattle.factor.specs.LayoutInSheet.{moves, move-no, kind-yes}
 use Rattle.rectanglerun.specs.RowsInTurn.{Weighable, Weighed}
 use Rattle.rectanglerun.specs.StagesAgree.{moves-are, stage-asks, stage-weighed}
 use Rattle.rectanglerun.proofs.stages.run_stage.Statement.{statement}
@@ -27,9 +29,42 @@ layout-at-requires c κs = search needs
 layout-at-requires-2 : tie.Need-layout-at-requires-2
 layout-at-requires-2 c κs = search needs
 
--- what the rows of a pair with weights ask, and that they are the stage
-module _ (l : tie.After-layout-at2) {kind : Kind} (k : l .layout-at2 .result .kind ≡ kind) (m : isMove kind ≡ false) {task : Task}
-    (t : l .before .before .args .run .task ≡ task) where
+is-move-requires : tie.Need-is-move-requires
+is-move-requires c κs = search needs
+
+-- ---- a pair of permutations
+permutes : (c : tie.Then1) → let s = c .before .before .before .before in
+    kindOf (count (s .args .row .now) (s .args .j)) ≡ Permutation
+permutes c =
+    let l = c .before .before in
+    kind-yes (l .before .before .pre .0 .row) (l .layout-at2 .ensures) (c .before .is-move .ensures) (c .if1 .taken)
+
+move-pair-requires : tie.Need-move-pair-requires
+move-pair-requires c κs =
+    let l = c .before .before .before in
+    let p = l .before .before .pre .0 in
+    let q = permutes (c .before) in
+    rw (l .before .layout-at .ensures, l .layout-at2 .ensures)
+    (moves (p .most1) (p .column) (p .match ∙ q), moves (p .most2) (p .row) q)
+
+returns : tie.Need-returns
+unfolding layoutAt layoutBy
+returns c =
+    let t = c .before .before in
+    let l = t .before .before in
+    let s = l .before .before in
+    let x = s .args .x .now in
+    let p = s .pre .0 in
+    let e = rw (l .before .layout-at .ensures, l .layout-at2 .ensures) at (c .move-pair .ensures) in (
+      step-moves e (moves-are _ _ _ _ _ _ (p .match) (p .match ∙ permutes t) (s .args .run) x) (moved-bounded _ _ _ (s .pre .1)),
+      ap length (e ∙ moved-scattered _ _ _ x) ∙ length-scattered _ _ _ x ∙ s .pre .2,
+    )
+
+-- ---- a pair of factors with weights: what its rows ask, and that they are the stage
+module _ (e : tie.Else1) where
+  abbrev l : tie.After-layout-at2
+  l = e .before .before
+
   abbrev s : tie.Start
   s = l .before .before
 
@@ -39,21 +74,25 @@ module _ (l : tie.After-layout-at2) {kind : Kind} (k : l .layout-at2 .result .ki
   abbrev fb : Layout
   fb = l .layout-at2 .result
 
-  asks : Weighable task (s .args .col .now) fa (s .args .row .now) fb (s .args .x .now)
-  asks =
-      stage-asks (s .pre .0) (l .before .layout-at .ensures) (l .layout-at2 .ensures) k m (s .args .run) t (s .pre .1) (s .pre .2)
+  weighs : isMove (fb .kind) ≡ false
+  weighs = sym (e .before .is-move .ensures) ∙ e .if1 .left
 
-  told : {ok : Bool} {y : List ℤ} →
-      Weighed task (s .args .run .rule) (s .args .col .now) fa (s .args .row .now) fb (s .args .x .now) ok y →
-      Step (limitOf (s .args .run .task)) (s .args .n1 * s .args .n2)
-      (takenBy (s .args .run) (s .args .n1 * s .args .n2)
-      (jointStage (s .args .n1) (s .args .n2) (factorAt (s .args .col .now) (s .args .n1) (s .args .i))
-      (factorAt (s .args .row .now) (s .args .n2) (s .args .j))) (s .args .x .now)) ok y
-      × (length y ≡ 256)
-  told w =
-      stage-weighed (s .pre .0) (l .before .layout-at .ensures) (l .layout-at2 .ensures) k m (s .args .run) t (s .pre .1)
-      (s .pre .2)
-      w
+  module _ {task : Task} (t : s .args .run .task ≡ task) where
+    asks : Weighable task (s .args .col .now) fa (s .args .row .now) fb (s .args .x .now)
+    asks =
+        stage-asks (s .pre .0) (l .before .layout-at .ensures) (l .layout-at2 .ensures) weighs (s .args .run) t (s .pre .1)
+        (s .pre .2)
+
+    told : {ok : Bool} {y : List ℤ} →
+        Weighed task (s .args .run .rule) (s .args .col .now) fa (s .args .row .now) fb (s .args .x .now) ok y →
+        Step (limitOf (s .args .run .task)) (s .args .n1 * s .args .n2)
+        (takenBy (s .args .run) (s .args .n1 * s .args .n2)
+        (jointStage (s .args .n1) (s .args .n2) (factorAt (s .args .col .now) (s .args .n1) (s .args .i))
+        (factorAt (s .args .row .now) (s .args .n2) (s .args .j))) (s .args .x .now)) ok y
+        × (length y ≡ mostCells)
+    told w =
+        stage-weighed (s .pre .0) (l .before .layout-at .ensures) (l .layout-at2 .ensures) weighs (s .args .run) t (s .pre .1)
+        (s .pre .2) w
 
 enum-told : tie.Need-enum-told
 enum-told c = search needs
@@ -62,193 +101,91 @@ enum-told-2 : tie.Need-enum-told-2
 enum-told-2 c = search needs
 
 apply-lower-rows-requires : tie.Need-apply-lower-rows-requires
-unfolding isMove
 apply-lower-rows-requires c κs =
-    let t = c .before in
-    let k = t .before .before in
-    (asks (k .before .before) (k .enum-told .given .1) refl (t .enum-told2 .given .1), k .enum-told .given .1)
+    let k = c .before in let t = k .before .before in (asks (t .before .before) (t .enum-told .given .1), k .enum-told2 .given .1)
 
-returns : tie.Need-returns
-unfolding isMove
-returns c =
-    let t = c .before .before in
-    let k = t .before .before in
-    told (k .before .before) (k .enum-told .given .1) refl (t .enum-told2 .given .1) (c .apply-lower-rows .ensures)
+returns-2 : tie.Need-returns-2
+returns-2 c = let t = c .before .before .before .before in told (t .before .before) (t .enum-told .given .1) (c .apply-lower-rows .ensures)
 
 enum-told-3 : tie.Need-enum-told-3
 enum-told-3 c = search needs
 
-undo-lower-rows-requires : tie.Need-undo-lower-rows-requires
-unfolding isMove
-undo-lower-rows-requires c κs =
-    let t = c .before in
-    let k = t .before .before in
-    (asks (k .before .before) (k .enum-told .given .1) refl (t .enum-told3 .given .1), k .enum-told .given .1)
+apply-upper-rows-requires : tie.Need-apply-upper-rows-requires
+apply-upper-rows-requires c κs =
+    let k = c .before in let t = k .before .before in (asks (t .before .before) (t .enum-told .given .1), k .enum-told3 .given .1)
 
-returns-2 : tie.Need-returns-2
-unfolding isMove
-returns-2 c =
-    let t = c .before .before in
-    let k = t .before .before in
-    told (k .before .before) (k .enum-told .given .1) refl (t .enum-told3 .given .1) (c .undo-lower-rows .ensures)
+returns-3 : tie.Need-returns-3
+returns-3 c = let t = c .before .before .before .before in told (t .before .before) (t .enum-told .given .1) (c .apply-upper-rows .ensures)
 
 enum-told-4 : tie.Need-enum-told-4
 enum-told-4 c = search needs
 
-allow-rows-requires : tie.Need-allow-rows-requires
-unfolding isMove
-allow-rows-requires c κs =
-    let t = c .before in
-    let k = t .before .before in
-    asks (k .before .before) (k .enum-told .given .1) refl (t .enum-told4 .given .1)
+apply-single-rows-requires : tie.Need-apply-single-rows-requires
+apply-single-rows-requires c κs =
+    let k = c .before in let t = k .before .before in (asks (t .before .before) (t .enum-told .given .1), k .enum-told4 .given .1)
 
-returns-3 : tie.Need-returns-3
-unfolding isMove
-returns-3 c =
-    let t = c .before .before in
-    let k = t .before .before in
-    told (k .before .before) (k .enum-told .given .1) refl (t .enum-told4 .given .1) (c .allow-rows .ensures)
+returns-4 : tie.Need-returns-4
+returns-4 c = let t = c .before .before .before .before in told (t .before .before) (t .enum-told .given .1) (c .apply-single-rows .ensures)
 
 enum-told-5 : tie.Need-enum-told-5
 enum-told-5 c = search needs
 
+returns-5 : tie.Need-returns-5
+returns-5 c = let e = c .before .before .before .before in absurd (move-no _ (weighs e) (c .enum-told5 .given .1))
+
 enum-told-6 : tie.Need-enum-told-6
 enum-told-6 c = search needs
-
-apply-upper-rows-requires : tie.Need-apply-upper-rows-requires
-unfolding isMove
-apply-upper-rows-requires c κs =
-    let t = c .before in
-    let k = t .before .before in
-    (asks (k .before .before) (k .enum-told5 .given .1) refl (t .enum-told6 .given .1), k .enum-told5 .given .1)
-
-returns-4 : tie.Need-returns-4
-unfolding isMove
-returns-4 c =
-    let t = c .before .before in
-    let k = t .before .before in
-    told (k .before .before) (k .enum-told5 .given .1) refl (t .enum-told6 .given .1) (c .apply-upper-rows .ensures)
 
 enum-told-7 : tie.Need-enum-told-7
 enum-told-7 c = search needs
 
-undo-upper-rows-requires : tie.Need-undo-upper-rows-requires
-unfolding isMove
-undo-upper-rows-requires c κs =
-    let t = c .before in
-    let k = t .before .before in
-    (asks (k .before .before) (k .enum-told5 .given .1) refl (t .enum-told7 .given .1), k .enum-told5 .given .1)
+undo-lower-rows-requires : tie.Need-undo-lower-rows-requires
+undo-lower-rows-requires c κs =
+    let k = c .before in let t = k .before .before in (asks (t .before .before) (t .enum-told6 .given .1), k .enum-told7 .given .1)
 
-returns-5 : tie.Need-returns-5
-unfolding isMove
-returns-5 c =
-    let t = c .before .before in
-    let k = t .before .before in
-    told (k .before .before) (k .enum-told5 .given .1) refl (t .enum-told7 .given .1) (c .undo-upper-rows .ensures)
+returns-6 : tie.Need-returns-6
+returns-6 c = let t = c .before .before .before .before in told (t .before .before) (t .enum-told6 .given .1) (c .undo-lower-rows .ensures)
 
 enum-told-8 : tie.Need-enum-told-8
 enum-told-8 c = search needs
 
-allow-rows-requires-2 : tie.Need-allow-rows-requires-2
-unfolding isMove
-allow-rows-requires-2 c κs =
-    let t = c .before in
-    let k = t .before .before in
-    asks (k .before .before) (k .enum-told5 .given .1) refl (t .enum-told8 .given .1)
+undo-upper-rows-requires : tie.Need-undo-upper-rows-requires
+undo-upper-rows-requires c κs =
+    let k = c .before in let t = k .before .before in (asks (t .before .before) (t .enum-told6 .given .1), k .enum-told8 .given .1)
 
-returns-6 : tie.Need-returns-6
-unfolding isMove
-returns-6 c =
-    let t = c .before .before in
-    let k = t .before .before in
-    told (k .before .before) (k .enum-told5 .given .1) refl (t .enum-told8 .given .1) (c .allow-rows2 .ensures)
+returns-7 : tie.Need-returns-7
+returns-7 c = let t = c .before .before .before .before in told (t .before .before) (t .enum-told6 .given .1) (c .undo-upper-rows .ensures)
 
 enum-told-9 : tie.Need-enum-told-9
 enum-told-9 c = search needs
 
+undo-single-rows-requires : tie.Need-undo-single-rows-requires
+undo-single-rows-requires c κs =
+    let k = c .before in let t = k .before .before in (asks (t .before .before) (t .enum-told6 .given .1), k .enum-told9 .given .1)
+
+returns-8 : tie.Need-returns-8
+returns-8 c = let t = c .before .before .before .before in told (t .before .before) (t .enum-told6 .given .1) (c .undo-single-rows .ensures)
+
 enum-told-10 : tie.Need-enum-told-10
 enum-told-10 c = search needs
 
-apply-single-rows-requires : tie.Need-apply-single-rows-requires
-unfolding isMove
-apply-single-rows-requires c κs =
-    let t = c .before in
-    let k = t .before .before in
-    (asks (k .before .before) (k .enum-told9 .given .1) refl (t .enum-told10 .given .1), k .enum-told9 .given .1)
-
-returns-7 : tie.Need-returns-7
-unfolding isMove
-returns-7 c =
-    let t = c .before .before in
-    let k = t .before .before in
-    told (k .before .before) (k .enum-told9 .given .1) refl (t .enum-told10 .given .1) (c .apply-single-rows .ensures)
+returns-9 : tie.Need-returns-9
+returns-9 c = let e = c .before .before .before .before in absurd (move-no _ (weighs e) (c .enum-told10 .given .1))
 
 enum-told-11 : tie.Need-enum-told-11
 enum-told-11 c = search needs
 
-undo-single-rows-requires : tie.Need-undo-single-rows-requires
-unfolding isMove
-undo-single-rows-requires c κs =
-    let t = c .before in
-    let k = t .before .before in
-    (asks (k .before .before) (k .enum-told9 .given .1) refl (t .enum-told11 .given .1), k .enum-told9 .given .1)
-
-returns-8 : tie.Need-returns-8
-unfolding isMove
-returns-8 c =
-    let t = c .before .before in
-    let k = t .before .before in
-    told (k .before .before) (k .enum-told9 .given .1) refl (t .enum-told11 .given .1) (c .undo-single-rows .ensures)
-
-enum-told-12 : tie.Need-enum-told-12
-enum-told-12 c = search needs
-
-allow-rows-requires-3 : tie.Need-allow-rows-requires-3
-unfolding isMove
-allow-rows-requires-3 c κs =
-    let t = c .before in
-    let k = t .before .before in
-    asks (k .before .before) (k .enum-told9 .given .1) refl (t .enum-told12 .given .1)
-
-returns-9 : tie.Need-returns-9
-unfolding isMove
-returns-9 c =
-    let t = c .before .before in
-    let k = t .before .before in
-    told (k .before .before) (k .enum-told9 .given .1) refl (t .enum-told12 .given .1) (c .allow-rows3 .ensures)
-
-enum-told-13 : tie.Need-enum-told-13
-enum-told-13 c = search needs
-
-move-pair-requires : tie.Need-move-pair-requires
-unfolding layoutAt layoutBy
-move-pair-requires c κs =
-    let k = c .before in
-    let l = k .before .before in
-    let p = l .before .before .pre .0 in
-    let q = sym (ap (λ f. f .kind) (l .layout-at2 .ensures)) ∙ k .enum-told13 .given .1 in
-    rw (l .before .layout-at .ensures, l .layout-at2 .ensures)
-    (moves (p .most1) (p .column) (p .match ∙ q), moves (p .most2) (p .row) q)
+allow-rows-requires : tie.Need-allow-rows-requires
+allow-rows-requires c κs = let t = c .before in asks (t .before .before) (t .enum-told11 .given .1)
 
 returns-10 : tie.Need-returns-10
-unfolding layoutAt layoutBy
-returns-10 c =
-    let k = c .before .before in
-    let l = k .before .before in
-    let s = l .before .before in
-    let x = s .args .x .now in
-    let p = s .pre .0 in
-    let q = p .match ∙ sym (ap (λ f. f .kind) (l .layout-at2 .ensures)) ∙ k .enum-told13 .given .1 in
-    let e = rw (l .before .layout-at .ensures, l .layout-at2 .ensures) at (c .move-pair .ensures) in (
-      step-moves e (moves-are _ _ _ _ _ _ (p .match) q (s .args .run) x) (moved-bounded _ _ _ (s .pre .1)),
-      ap length (e ∙ moved-scattered _ _ _ x) ∙ length-scattered _ _ _ x ∙ s .pre .2,
-    )
+returns-10 c = let t = c .before .before in told (t .before .before) (t .enum-told11 .given .1) (c .allow-rows .ensures)
 
 pub run-stage-spec : {M : Type 1} → statement M
 run-stage-spec =
     tie.close
-    (tie.spec layout-at-requires layout-at-requires-2 enum-told enum-told-2 apply-lower-rows-requires returns enum-told-3
-    undo-lower-rows-requires returns-2 enum-told-4 allow-rows-requires returns-3 enum-told-5 enum-told-6 apply-upper-rows-requires
-    returns-4 enum-told-7 undo-upper-rows-requires returns-5 enum-told-8 allow-rows-requires-2 returns-6 enum-told-9 enum-told-10
-    apply-single-rows-requires returns-7 enum-told-11 undo-single-rows-requires returns-8 enum-told-12 allow-rows-requires-3
-    returns-9 enum-told-13 move-pair-requires returns-10)
+    (tie.spec layout-at-requires layout-at-requires-2 is-move-requires move-pair-requires returns enum-told enum-told-2
+    apply-lower-rows-requires returns-2 enum-told-3 apply-upper-rows-requires returns-3 enum-told-4 apply-single-rows-requires
+    returns-4 enum-told-5 returns-5 enum-told-6 enum-told-7 undo-lower-rows-requires returns-6 enum-told-8
+    undo-upper-rows-requires returns-7 enum-told-9 undo-single-rows-requires returns-8 enum-told-10 returns-9 enum-told-11
+    allow-rows-requires returns-10)
