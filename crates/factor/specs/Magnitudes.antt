@@ -11,7 +11,7 @@ use lib.ListN.{length, replicate}
 use lib.Signed.{ltZ}
 use Rattle.whole.specs.Diff.{lia, Within}
 use Rattle.whole.specs.Sum.{sum-cong}
-use Rattle.rules.specs.Numbers.{unit, mostEntry, mostAllowance, mostOrder, at}
+use Rattle.rules.specs.Numbers.{mostOrder, mostEntry, unit, mostAllowance, at}
 use Rattle.rules.specs.Stages.{fill}
 use Rattle.rules.specs.Laws.Lists.{length-fill, fill-at}
 use Rattle.factor.specs.declared.Row.{Row}
@@ -29,7 +29,7 @@ abbrev pub magnitudeAt : List ℤ → ℕ → ℤ
 magnitudeAt a p = pos (natAbs (at a p))
 
 unfoldable pub magnitudesOf : List ℤ → ℕ → ℕ → List ℤ
-magnitudesOf a p m = fill m (λ j. magnitudeAt a (p + j)) (replicate 16 (pos 0))
+magnitudesOf a p m = fill m (λ j. magnitudeAt a (p + j)) (replicate mostOrder (pos 0))
 
 -- every one of m numbers from place p on is a multiple of 4096
 unfoldable pub whole : List ℤ → ℕ → ℕ → Bool
@@ -74,13 +74,15 @@ module _ {s : List ℤ} {r : Row} {m : ℕ} (h : RowIn s mostOrder r m) where
 
   at-copy : (j : ℕ) → j < many → at copy j ≡ magnitudeAt s (r .at + j)
   unfolding magnitudesOf
-  at-copy j l = fill-at many _ (replicate 16 (pos 0)) j l (let a = row-entries .few in omega arith)
+  at-copy j l = fill-at many _ (replicate mostOrder (pos 0)) j l (let a = row-entries .few in omega arith)
 
   -- the copy is a row like the one it was made of
   pub magnitudes-row : RowIn (magnitudesOf s (r .at) (r .left + r .right)) mostOrder (row 0 (r .left) (r .right)) m
   unfolding magnitudesOf
   magnitudes-row = record {
-    room = let a = row-entries .few in omega (arith, length-fill many (λ j. magnitudeAt s (r .at + j)) (replicate 16 (pos 0)));
+    room =
+        let a = row-entries .few in
+        omega (arith, length-fill many (λ j. magnitudeAt s (r .at + j)) (replicate mostOrder (pos 0)));
     left = h .left;
     right = h .right;
     entries = λ j l. let e : 0 + j ≡ j = omega arith in rw (e, at-copy j l) (record { within = h .entries j l .within });

@@ -111,9 +111,9 @@ from-permutes false h = h
 
 -- a line moved through a copy of it
 pub moved-aside : (back : Bool) {n : ℕ} {p : ℕ → ℕ} (k s : ℕ) (x : List ℤ) {v : List ℤ} → n ≤ mostOrder → Permutes n p →
-    v ≡ fill n (λ m. at x (k + m * s)) (replicate 16 (pos 0)) →
+    v ≡ fill n (λ m. at x (k + m * s)) (replicate mostOrder (pos 0)) →
     movedFrom back n p v k s x ≡ movedLine back n p k s x
 unfolding movedFrom movedLine
 moved-aside back {n} k s x few h e =
     scattered-same n _ _ _ _ x (λ m l. refl)
-    (λ m l. rw e (fill-at n _ (replicate 16 (pos 0)) _ (from-permutes back h .below m l) few))
+    (λ m l. rw e (fill-at n _ (replicate mostOrder (pos 0)) _ (from-permutes back h .below m l) few))

@@ -19,7 +19,7 @@ use Rattle.whole.specs.Stated.{sum}
 use Rattle.whole.specs.Sum.{sum-cong, sum-within}
 use Rattle.rules.specs.declared.Kind.{Kind}
 use Rattle.rules.specs.declared.Kind.the-variants.{Permutation, Lower, Upper, Single}
-use Rattle.rules.specs.Numbers.{mostEntry, mostAllowance, at, count}
+use Rattle.rules.specs.Numbers.{mostOrder, mostEntry, mostAllowance, at, count}
 use Rattle.rules.specs.Sheets.{kindOf, triangle}
 use Rattle.rules.specs.Factors.{signsAt, numbers, above}
 use Rattle.rules.specs.Stages.{fill, inside, putBack}
@@ -40,7 +40,7 @@ bounded-le l h = record { small = λ k. within-le l (h .small k) }
 pub record Terms (a x : List ℤ) (m : ℕ) : Type 0 where
   pub room : m ≤ length a
   pub across : m ≤ length x
-  pub few : m ≤ 16
+  pub few : m ≤ mostOrder
   pub entries : (j : ℕ) → j < m → Within mostEntry (at a j)
   pub numbers : (j : ℕ) → j < m → Within mostAllowance (at x j)
 
@@ -58,10 +58,10 @@ partial {A} {B} n j u x l h k = within-le (mul-le-mul-right (A * B) l) (sum-with
 
 -- the sum of the first j terms
 pub sum-small : {a x : List ℤ} {m : ℕ} → Terms a x m → (i : ℕ) → i ≤ m →
-    Within (16 * (mostEntry * mostAllowance)) (sum i (λ j. at a j *ℤ at x j))
+    Within (mostOrder * (mostEntry * mostAllowance)) (sum i (λ j. at a j *ℤ at x j))
 sum-small {a} {x} t i l =
     let h = t .few in
-    partial 16 i (at a) (at x) (omega arith) (λ j b. t .entries j (omega arith)) (λ j b. t .numbers j (omega arith))
+    partial mostOrder i (at a) (at x) (omega arith) (λ j b. t .entries j (omega arith)) (λ j b. t .numbers j (omega arith))
 
 -- ---- how many entries stand before a row
 pub half-triangle : (m : ℕ) → (m * m - m) / 2 ≡ triangle m
@@ -73,7 +73,8 @@ above-triangle n zero l = omega arith
 above-triangle n (suc m) l = omega (arith, above-triangle n m (omega arith))
 
 -- ---- a row's two runs
-module _ {s x : List ℤ} {r : Row} {m : ℕ} (h : RowIn s 16 r m) (k : Bounded mostAllowance x) (wide : length x ≡ 16) where
+module _ {s x : List ℤ} {r : Row} {m : ℕ} (h : RowIn s mostOrder r m) (k : Bounded mostAllowance x)
+    (wide : length x ≡ mostOrder) where
   pub left-terms : Terms (drop (r .at) s) x (r .left)
   left-terms = record {
     room = let a = h .room in omega (arith, length-drop (r .at) s);
@@ -106,7 +107,7 @@ module _ {s x : List ℤ} {r : Row} {m : ℕ} (h : RowIn s 16 r m) (k : Bounded 
       (sum-cong (r .right) _ _ (λ j b. rw (getD-drop (r .at + r .left) s j (pos 0), getD-drop (m + 1) x j (pos 0), add-one)))
 
 -- the sum along a row
-module _ {s x : List ℤ} {r : Row} {m : ℕ} (h : RowIn s 16 r m) (k : Bounded mostAllowance x) where
+module _ {s x : List ℤ} {r : Row} {m : ℕ} (h : RowIn s mostOrder r m) (k : Bounded mostAllowance x) where
   pub along-small : Within (32 * (mostEntry * mostAllowance)) (along (at s) r m x)
   unfolding along
   along-small =

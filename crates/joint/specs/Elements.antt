@@ -12,7 +12,7 @@ use Rattle.whole.specs.Floor.{shr-lo, shr-hi, shr-unique}
 use Rattle.whole.specs.Stated.{Sign}
 use Rattle.whole.specs.Laws.{distrib}
 use Rattle.whole.specs.Machine.{within-le, within-*, within-pos, sign-within}
-use Rattle.rules.specs.Numbers.{unit, unit², mostEntry, mostAllowance, bound, at}
+use Rattle.rules.specs.Numbers.{mostOrder, mostEntry, unit, unit², bound, mostAllowance, at}
 use Rattle.rules.specs.declared.Rule.{Rule}
 use Rattle.rules.specs.declared.Rule.the-variants.{Nearest}
 use Rattle.rules.specs.Stages.{R}
@@ -80,7 +80,7 @@ module _ (rule : Rule) (c : List ℤ) (fa : Layout) (r : List ℤ) (fb : Layout)
 -- ---- what the code asks
 -- of row i of a block, whose sums over n columns go into v
 abbrev pub RowGiven : List ℤ → Layout → ℕ → List ℤ → ℕ → List ℤ → Type 0
-RowGiven s f i x n v = InSheet s f × (i < f .order) × (n ≤ 16) × Bounded bound x × (v ≡ replicate 16 (pos 0))
+RowGiven s f i x n v = InSheet s f × (i < f .order) × (n ≤ mostOrder) × Bounded bound x × (v ≡ replicate mostOrder (pos 0))
 
 -- of the element in column j
 abbrev pub ElementGiven : List ℤ → Layout → ℕ → ℤ → List ℤ → ℤ → Type 0
@@ -99,7 +99,7 @@ pub sums-small : {s : List ℤ} {f : Layout} {x : List ℤ} → InSheet s f → 
 sums-small h i l n q = columns-small n (band-at h i l) (bounded-le (omega arith) q)
 
 abbrev pub mostJoint : ℕ
-mostJoint = 16 * (mostEntry * mostColumn) + mostEntry * mostEntry * mostAllowance
+mostJoint = mostOrder * (mostEntry * mostColumn) + mostEntry * mostEntry * mostAllowance
 
 module _ {s : List ℤ} {f : Layout} {v : List ℤ} (h : InSheet s f) (j : ℕ) (l : j < f .order) (q : Bounded mostColumn v) where
   pub rest-element-small : Within mostJoint (across s (rowOf f j) j (diagonalOf (signAt s f j)) (at v))

@@ -13,7 +13,7 @@ use Rattle.whole.specs.Diff.{lin, Within}
 use Rattle.whole.specs.Laws.{distrib}
 use Rattle.whole.specs.Machine.{within-le, within-+, within-*}
 use Rattle.whole.specs.Sum.{sum-cong}
-use Rattle.rules.specs.Numbers.{unit², mostAllowance, at}
+use Rattle.rules.specs.Numbers.{mostOrder, unit², mostAllowance, at}
 use Rattle.rules.specs.declared.Rule.{Rule}
 use Rattle.rules.specs.Stages.{R}
 use Rattle.rules.specs.GoodStages.{Permutes}
@@ -47,7 +47,7 @@ module _ (c : List ℤ) (fa : Layout) (i : ℕ) (fb : Layout) where
     pub done : (u : ℕ) → u < t → at v (q u) ≡ rest x (q u) +ℤ (diagonal *ℤ at x (i * n + q u))
     pub ahead : (u : ℕ) → t ≤ u → u < n → at v (q u) ≡ rest x (q u)
 
-  module _ (low : fb .row < fb .order) (few : fb .order ≤ 16) where
+  module _ (low : fb .row < fb .order) (few : fb .order ≤ mostOrder) where
     p : Permutes (fb .order) (λ u. nthUndone (fb .kind) (fb .order) (fb .row) u)
     p = undoing-permutes (fb .kind) (fb .order) (fb .row) low
 
@@ -55,7 +55,7 @@ module _ (c : List ℤ) (fa : Layout) (i : ℕ) (fb : Layout) where
     unfolding restSums
     recovered-sums-start x e = record {
       done = λ u l. absurd (omega arith);
-      ahead = λ u l b. ap (λ (w : List ℤ). at w (q u)) e ∙ fill-at n _ (replicate 16 (pos 0)) (q u) (p .below u b) few;
+      ahead = λ u l b. ap (λ (w : List ℤ). at w (q u)) e ∙ fill-at n _ (replicate mostOrder (pos 0)) (q u) (p .below u b) few;
     }
 
     module _ (h : InSheet c fa) (b : i < fa .order) (t : ℕ) (l : t < fb .order) {x v : List ℤ} (s : RecoveredSums t x v) where
@@ -64,7 +64,7 @@ module _ (c : List ℤ) (fa : Layout) (i : ℕ) (fb : Layout) where
 
       -- an element recovered
       pub recovered-sums-next : (z : ℤ) → i * fb .order + nthUndone (fb .kind) (fb .order) (fb .row) t < length x →
-          length v ≡ 16 →
+          length v ≡ mostOrder →
           RecoveredSums (t + 1) (set x (i * fb .order + nthUndone (fb .kind) (fb .order) (fb .row) t) z)
           (set v (nthUndone (fb .kind) (fb .order) (fb .row) t)
           (at v (nthUndone (fb .kind) (fb .order) (fb .row) t) +ℤ (diagonalOf (signAt c fa i) *ℤ z)))
@@ -113,7 +113,7 @@ module _ (c : List ℤ) (fa : Layout) (i : ℕ) (fb : Layout) where
         unfolding columnSums
         seen k g e f =
             rw (p .to-from k g) at (s .done (p .from k) (early (decLt (p .from k) t) (ℕ-discrete (p .from k) t)))
-            ∙ sym (fill-at n _ (replicate 16 (pos 0)) k g few)
+            ∙ sym (fill-at n _ (replicate mostOrder (pos 0)) k g few)
           where
             early : Dec (p .from k < t) → Dec (p .from k ≡ t) → p .from k < t
             early (yes a) d = a
@@ -146,7 +146,7 @@ module _ (c : List ℤ) (fa : Layout) (i : ℕ) (fb : Layout) where
             (rest x (q t)) (at x (i * n + q t)) diagonal
             ∙ ap (λ (d : ℤ). (entriesSum r (rowOf fb (q t)) (q t) (at (sumsAt c fa i x n)) +ℤ
             (diagonalOf (signAt r fb (q t)) *ℤ d)) -ℤ ((diagonal *ℤ diagonalOf (signAt r fb (q t))) *ℤ at x (i * n + q t)))
-            (sym (fill-at n _ (replicate 16 (pos 0)) (q t) (p .below t l) few))
+            (sym (fill-at n _ (replicate mostOrder (pos 0)) (q t) (p .below t l) few))
 
         -- so it is what it was
         pub recovered-sums-undo : (rule : Rule) →

@@ -14,7 +14,7 @@ use lib.ListN.{length, set}
 use Rattle.laws.specs.Tests.{apart}
 use Rattle.rules.specs.declared.Rule.{Rule}
 use Rattle.rules.specs.declared.Kind.the-variants.{Permutation}
-use Rattle.rules.specs.Numbers.{unit, bound, at}
+use Rattle.rules.specs.Numbers.{mostOrder, mostCells, unit, bound, at}
 use Rattle.rules.specs.Stages.{fill, inside}
 use Rattle.rules.specs.GoodStages.{Permutes}
 use Rattle.rules.specs.Laws.Lists.{length-fill, fill-at, fill-past, same-list}
@@ -50,7 +50,7 @@ pub record RowAsks (c : List ℤ) (fa : Layout) (r : List ℤ) (fb : Layout) (i 
   pub below : i < fa .order
   pub low : fb .row < fb .order
   pub small : Bounded bound x
-  pub long : length x ≡ 256
+  pub long : length x ≡ mostCells
   pub alike : fa .kind ≡ fb .kind
   pub weighs : fb .kind ≢ Permutation
 
@@ -266,10 +266,10 @@ element-same Allowance rule c fa r fb {x} {y} i u l g v =
     (sym (allowed-here rule c fa r fb y i u l))
 
 -- a row of a block of at most 16 by 16, and a place of it
-pub row-room : {a b i : ℕ} → a ≤ 16 → b ≤ 16 → i < a → i * b + b ≤ 256
-row-room {a} {b} {i} p q l = let h : suc i ≤ 16 = omega arith in omega (arith, NatL.mul-le-mul-right b h)
+pub row-room : {a b i : ℕ} → a ≤ mostOrder → b ≤ mostOrder → i < a → i * b + b ≤ mostCells
+row-room {a} {b} {i} p q l = let h : suc i ≤ mostOrder = omega arith in omega (arith, NatL.mul-le-mul-right b h)
 
-pub in-block : {a b i : ℕ} (j : ℕ) → a ≤ 16 → b ≤ 16 → i < a → j < b → i * b + j < 256
+pub in-block : {a b i : ℕ} (j : ℕ) → a ≤ mostOrder → b ≤ mostOrder → i < a → j < b → i * b + j < mostCells
 in-block {b} {i} j p q l k = let h = row-room {b = b} {i = i} p q l in omega arith
 
 -- ---- a row stuck stops the stage: the number beyond the bound is found in what all turns would give

@@ -16,7 +16,7 @@ use Rattle.whole.specs.Laws.{distrib}
 use Rattle.whole.specs.Machine.{within-le, within-+, within--, within-*, within-pos}
 use Rattle.whole.specs.Stated.{sum}
 use Rattle.whole.specs.Sum.{sum-cong, sum-within}
-use Rattle.rules.specs.Numbers.{mostEntry, mostAllowance, at}
+use Rattle.rules.specs.Numbers.{mostOrder, mostCells, mostEntry, mostAllowance, at}
 use Rattle.rules.specs.Stages.{fill}
 use Rattle.rules.specs.Laws.Lists.{length-fill, fill-at, fill-past, fill-same, same-list, set-other}
 use Rattle.rules.specs.Laws.Rectangles.{row-of, col-of}
@@ -55,11 +55,11 @@ withFour c t v = set (set (set (set v c (at t 0)) (c + 1) (at t 1)) (c + 2) (at 
 
 -- "V": row m times each of the n columns
 unfoldable pub columnSums : List ℤ → Row → ℕ → ℤ → List ℤ → ℕ → List ℤ
-columnSums a r m diagonal x n = fill n (λ k. across a r m diagonal (inColumn x n k)) (replicate 16 (pos 0))
+columnSums a r m diagonal x n = fill n (λ k. across a r m diagonal (inColumn x n k)) (replicate mostOrder (pos 0))
 
 -- the same without row m itself
 unfoldable pub restSums : List ℤ → Row → ℕ → List ℤ → ℕ → List ℤ
-restSums a r m x n = fill n (λ k. entriesSum a r m (inColumn x n k)) (replicate 16 (pos 0))
+restSums a r m x n = fill n (λ k. entriesSum a r m (inColumn x n k)) (replicate mostOrder (pos 0))
 
 -- row m times V, less the own term of an element: up is the weight on the diagonal in its row of the block, x its number
 unfoldable pub jointSum : List ℤ → Row → ℕ → ℤ → ℤ → List ℤ → ℤ → ℤ
@@ -67,7 +67,7 @@ jointSum a r m diagonal columnDiagonal v x = across a r m diagonal (at v) -ℤ (
 
 -- the largest number of V
 abbrev pub mostColumn : ℕ
-mostColumn = 16 * (mostEntry * mostAllowance)
+mostColumn = mostOrder * (mostEntry * mostAllowance)
 
 -- and of a column less a number in it
 abbrev pub mostRest : ℕ
@@ -75,11 +75,11 @@ mostRest = mostColumn + mostEntry * mostAllowance
 
 -- ---- what the code asks
 pub record Band (a : List ℤ) (r : Row) (m : ℕ) (diagonal : ℤ) : Type 0 where
-  pub row : RowIn a 16 r m
+  pub row : RowIn a mostOrder r m
   pub small : Within mostEntry diagonal
 
 -- a row of entries alone
-pub no-diagonal : {a : List ℤ} {r : Row} {m : ℕ} → RowIn a 16 r m → Band a r m (pos 0)
+pub no-diagonal : {a : List ℤ} {r : Row} {m : ℕ} → RowIn a mostOrder r m → Band a r m (pos 0)
 no-diagonal h = record { row = h; small = within-le (omega arith) (within-pos 0) }
 
 -- the largest product of an entry and a number
@@ -89,34 +89,34 @@ product = mostEntry * mostAllowance
 -- m entries of a from place p on, w numbers of each row of x from place k on, and sums of some products
 pub record Adding (a : List ℤ) (p m : ℕ) (x : List ℤ) (k n w : ℕ) (v : List ℤ) : Type 0 where
   pub some : ℕ
-  pub few : some + m ≤ 16
-  pub wide : w ≤ 16
+  pub few : some + m ≤ mostOrder
+  pub wide : w ≤ mostOrder
   pub room : p + m ≤ length a
-  pub places : (j : ℕ) → j < m → k + j * n + w ≤ 256
+  pub places : (j : ℕ) → j < m → k + j * n + w ≤ mostCells
   pub entries : (j : ℕ) → j < m → Within mostEntry (at a (p + j))
   pub numbers : Bounded mostAllowance x
   pub small : Bounded (some * product) v
-  pub long : length v ≡ 16
+  pub long : length v ≡ mostOrder
 
 -- m entries of a from place p on, and whole rows of x from place k on
 pub record Side (a : List ℤ) (p m : ℕ) (x : List ℤ) (k n : ℕ) : Type 0 where
-  pub few : m ≤ 16
-  pub wide : n ≤ 16
-  pub start : k ≤ 256
+  pub few : m ≤ mostOrder
+  pub wide : n ≤ mostOrder
+  pub start : k ≤ mostCells
   pub room : p + m ≤ length a
-  pub places : k + m * n ≤ 256
+  pub places : k + m * n ≤ mostCells
   pub entries : (j : ℕ) → j < m → Within mostEntry (at a (p + j))
   pub numbers : Bounded mostAllowance x
 
 -- m entries of a from place p on, and numbers of V from place k on
 pub record Wide (a : List ℤ) (p : ℕ) (v : List ℤ) (k m : ℕ) : Type 0 where
   pub room : p + m ≤ length a
-  pub columns : k + m ≤ 16
+  pub columns : k + m ≤ mostOrder
   pub entries : (j : ℕ) → j < m → Within mostEntry (at a (p + j))
   pub numbers : Bounded mostColumn v
 
 pub wide-small : {a v : List ℤ} {p k m : ℕ} → Wide a p v k m → (i : ℕ) → i ≤ m →
-    Within (16 * (mostEntry * mostColumn)) (sum i (λ j. at a (p + j) *ℤ at v (k + j)))
+    Within (mostOrder * (mostEntry * mostColumn)) (sum i (λ j. at a (p + j) *ℤ at v (k + j)))
 wide-small {m} t i l =
     let h = t .columns in
     within-le (omega arith) (sum-within i _ (λ j b. within-* (t .entries j (omega arith)) (t .numbers .small _)))
@@ -136,7 +136,7 @@ module _ {a : List ℤ} {r : Row} {m : ℕ} {diagonal : ℤ} (h : Band a r m dia
         let e : r .at + (r .left + j) ≡ r .at + r .left + j = omega arith in
         within-* (rw e at (h .row .entries (r .left + j) (omega arith))) (k (suc m + j)))))
 
-    pub across-small : Within (16 * (mostEntry * B)) (across a r m diagonal f)
+    pub across-small : Within (mostOrder * (mostEntry * B)) (across a r m diagonal f)
     across-small = within-le (omega arith) (within-+ entries-small (within-* (h .small) (k m)))
 
   module _ {v : List ℤ} (q : Bounded mostColumn v) where
@@ -230,8 +230,8 @@ unfolding rowsSum sum
 adding-next {v} {w} t j = added-twice w _ _ v (inside t) ∙ rw add-one
 
 -- some columns of whole rows: w of them, of the first row those from place k′ on, and sums of `some` products
-pub side-adding : {a x v : List ℤ} {p m k n : ℕ} → Side a p m x k n → (k′ w some : ℕ) → k′ + w ≤ k + n → some + m ≤ 16 →
-    w ≤ 16 → Bounded (some * product) v → length v ≡ 16 → Adding a p m x k′ n w v
+pub side-adding : {a x v : List ℤ} {p m k n : ℕ} → Side a p m x k n → (k′ w some : ℕ) → k′ + w ≤ k + n → some + m ≤ mostOrder →
+    w ≤ mostOrder → Bounded (some * product) v → length v ≡ mostOrder → Adding a p m x k′ n w v
 side-adding {m} {k} {n} t k′ w some l few wide small long = record {
   some = some;
   few = few;
@@ -245,10 +245,10 @@ side-adding {m} {k} {n} t k′ w some l few wide small long = record {
 }
 
 -- the two runs of entries
-module _ {a : List ℤ} {r : Row} {m : ℕ} (h : RowIn a 16 r m) {x : List ℤ} {n : ℕ} (few : n ≤ 16)
+module _ {a : List ℤ} {r : Row} {m : ℕ} (h : RowIn a mostOrder r m) {x : List ℤ} {n : ℕ} (few : n ≤ mostOrder)
     (q : Bounded mostAllowance x) where
   abbrev zeros : List ℤ
-  zeros = replicate 16 (pos 0)
+  zeros = replicate mostOrder (pos 0)
 
   pub above-side : Side a (r .at) (r .left) x 0 n
   above-side = record {
@@ -256,7 +256,8 @@ module _ {a : List ℤ} {r : Row} {m : ℕ} (h : RowIn a 16 r m) {x : List ℤ} 
     wide = few;
     start = omega arith;
     room = let d = h .room in omega arith;
-    places = let d : r .left ≤ 16 = (let d = h .left in let e = h .right in omega arith) in omega (arith, mul-le-mul d few);
+    places =
+        let d : r .left ≤ mostOrder = (let d = h .left in let e = h .right in omega arith) in omega (arith, mul-le-mul d few);
     entries = λ j b. h .entries j (omega arith);
     numbers = q;
   }
@@ -273,27 +274,27 @@ module _ {a : List ℤ} {r : Row} {m : ℕ} (h : RowIn a 16 r m) {x : List ℤ} 
     numbers = q;
   }
 
-  pub above : Adding a (r .at) (r .left) x 0 n n (replicate 16 (pos 0))
-  above = side-adding above-side 0 n 0 (omega arith) (omega (arith, above-side .few)) few (nothing 16) refl
+  pub above : Adding a (r .at) (r .left) x 0 n n (replicate mostOrder (pos 0))
+  above = side-adding above-side 0 n 0 (omega arith) (omega (arith, above-side .few)) few (nothing mostOrder) refl
 
   pub below : Adding a (r .at + r .left) (r .right) x ((m + 1) * n) n n
-      (added n (rowsSum a (r .at) (r .left) x 0 n) (replicate 16 (pos 0)))
+      (added n (rowsSum a (r .at) (r .left) x 0 n) (replicate mostOrder (pos 0)))
   below =
       side-adding below-side ((m + 1) * n) n (r .left) (omega arith) (let d = h .left in let e = h .right in omega arith)
       few
-      (bounded-le (omega arith) (added-small n _ zeros 0 (r .left) few (nothing 16)
+      (bounded-le (omega arith) (added-small n _ zeros 0 (r .left) few (nothing mostOrder)
       (λ c b. rows-small above (r .left) (omega arith) c)))
       (length-fill n _ zeros)
 
   -- together
   pub rest-rows : added n (rowsSum a (r .at + r .left) (r .right) x ((m + 1) * n) n)
-      (added n (rowsSum a (r .at) (r .left) x 0 n) (replicate 16 (pos 0))) ≡ restSums a r m x n
+      (added n (rowsSum a (r .at) (r .left) x 0 n) (replicate mostOrder (pos 0))) ≡ restSums a r m x n
   unfolding restSums entriesSum rowsSum
   rest-rows =
       added-twice n _ _ zeros few
       ∙ fill-same n _ _ zeros
       (λ c b.
-      rw (zero-at 16 c)
+      rw (zero-at mostOrder c)
       (+ℤ-idl _
       ∙ ap₂ _+ℤ_
       (sum-cong (r .left) _ _ (λ j g. rw zero-add))
@@ -309,19 +310,19 @@ module _ {a : List ℤ} {r : Row} {m : ℕ} (h : RowIn a 16 r m) {x : List ℤ} 
 
 -- ---- a row with entries on one side of the diagonal
 pub rest-left : (a : List ℤ) (r : Row) (m : ℕ) (x : List ℤ) (n p q : ℕ) → p ≡ r .at → q ≡ r .left → r .right ≡ 0 →
-    added n (rowsSum a p q x 0 n) (replicate 16 (pos 0)) ≡ restSums a r m x n
+    added n (rowsSum a p q x 0 n) (replicate mostOrder (pos 0)) ≡ restSums a r m x n
 unfolding restSums entriesSum rowsSum sum
 rest-left a r m x n p q f g e =
-    fill-same n _ _ (replicate 16 (pos 0))
-    (λ c b. rw (zero-at 16 c, f, g, e) (+ℤ-idl _ ∙ sum-cong (r .left) _ _ (λ j g. rw zero-add) ∙ sym (+ℤ-idr _)))
+    fill-same n _ _ (replicate mostOrder (pos 0))
+    (λ c b. rw (zero-at mostOrder c, f, g, e) (+ℤ-idl _ ∙ sum-cong (r .left) _ _ (λ j g. rw zero-add) ∙ sym (+ℤ-idr _)))
 
 pub rest-right : (a : List ℤ) (r : Row) (m : ℕ) (x : List ℤ) (n p q : ℕ) → p ≡ r .at → q ≡ r .right → r .left ≡ 0 →
-    added n (rowsSum a p q x ((m + 1) * n) n) (replicate 16 (pos 0)) ≡ restSums a r m x n
+    added n (rowsSum a p q x ((m + 1) * n) n) (replicate mostOrder (pos 0)) ≡ restSums a r m x n
 unfolding restSums entriesSum rowsSum sum
 rest-right a r m x n p q f g e =
-    fill-same n _ _ (replicate 16 (pos 0))
+    fill-same n _ _ (replicate mostOrder (pos 0))
     (λ c b.
-    rw (zero-at 16 c, f, g, e)
+    rw (zero-at mostOrder c, f, g, e)
     (+ℤ-idl _
     ∙ sum-cong (r .right) _ _
     (λ j g.
@@ -331,9 +332,9 @@ rest-right a r m x n p q f g e =
     ∙ sym (+ℤ-idl _)))
 
 -- and its own numbers
-pub rest-with : (a : List ℤ) (r : Row) (m : ℕ) (x : List ℤ) (n : ℕ) (diagonal : ℤ) (p q k : ℕ) → n ≤ 16 →
-    added n (rowsSum a p q x k n) (replicate 16 (pos 0)) ≡ restSums a r m x n →
-    added n (sideWith a p q x k n diagonal (m * n)) (replicate 16 (pos 0)) ≡ columnSums a r m diagonal x n
+pub rest-with : (a : List ℤ) (r : Row) (m : ℕ) (x : List ℤ) (n : ℕ) (diagonal : ℤ) (p q k : ℕ) → n ≤ mostOrder →
+    added n (rowsSum a p q x k n) (replicate mostOrder (pos 0)) ≡ restSums a r m x n →
+    added n (sideWith a p q x k n diagonal (m * n)) (replicate mostOrder (pos 0)) ≡ columnSums a r m diagonal x n
 unfolding restSums columnSums
 rest-with a r m x n diagonal p q k few e =
     fill-same n _ (λ c. at zeros c +ℤ (rowsSum a p q x k n c +ℤ own c)) zeros
@@ -344,23 +345,24 @@ rest-with a r m x n diagonal p q k few e =
     ∙ fill-same n _ _ zeros (λ c b. ap (λ (z : ℤ). z +ℤ own c) (fill-at n _ zeros c b few))
   where
     zeros : List ℤ
-    zeros = replicate 16 (pos 0)
+    zeros = replicate mostOrder (pos 0)
 
     own : ℕ → ℤ
     own c = diagonal *ℤ at x (m * n + c)
 
 -- ---- four columns more
 -- four columns of whole rows, c columns from the left, in sums of the own terms or of none
-pub side-four : {a x v : List ℤ} {p m k n : ℕ} → Side a p m x k n → (c some : ℕ) → c + 4 ≤ n → some + m ≤ 16 →
-    Bounded (some * product) v → length v ≡ 16 → Adding a p m x (k + c) n 4 v
+pub side-four : {a x v : List ℤ} {p m k n : ℕ} → Side a p m x k n → (c some : ℕ) → c + 4 ≤ n → some + m ≤ mostOrder →
+    Bounded (some * product) v → length v ≡ mostOrder → Adding a p m x (k + c) n 4 v
 side-four {k} t c some l few small long = side-adding t (k + c) 4 some (omega arith) few (omega arith) small long
 
 -- the own terms
-pub own-small : {x : List ℤ} {d : ℤ} (w o : ℕ) → w ≤ 16 → Bounded mostAllowance x → Within mostEntry d →
-    Bounded (1 * product) (added w (λ c. d *ℤ at x (o + c)) (replicate 16 (pos 0)))
+pub own-small : {x : List ℤ} {d : ℤ} (w o : ℕ) → w ≤ mostOrder → Bounded mostAllowance x → Within mostEntry d →
+    Bounded (1 * product) (added w (λ c. d *ℤ at x (o + c)) (replicate mostOrder (pos 0)))
 own-small w o l q h =
     bounded-le (omega arith)
-    (added-small w _ (replicate 16 (pos 0)) 0 1 l (nothing 16) (λ c b. within-le (omega arith) (within-* h (q .small _))))
+    (added-small w _ (replicate mostOrder (pos 0)) 0 1 l (nothing mostOrder)
+    (λ c b. within-le (omega arith) (within-* h (q .small _))))
 
 pub four-rows : (a : List ℤ) (p m : ℕ) (x : List ℤ) (k n c d : ℕ) → rowsSum a p m x (k + c) n d ≡ rowsSum a p m x k n (c + d)
 unfolding rowsSum
@@ -379,26 +381,26 @@ fill-four f k v =
 
 -- and what they are of the whole row
 pub four-with : (a : List ℤ) (p m : ℕ) (x : List ℤ) (k n : ℕ) (d : ℤ) (o c : ℕ) →
-    added 4 (rowsSum a p m x (k + c) n) (added 4 (λ e. d *ℤ at x (o + c + e)) (replicate 16 (pos 0)))
-    ≡ added 4 (λ e. sideWith a p m x k n d o (c + e)) (replicate 16 (pos 0))
+    added 4 (rowsSum a p m x (k + c) n) (added 4 (λ e. d *ℤ at x (o + c + e)) (replicate mostOrder (pos 0)))
+    ≡ added 4 (λ e. sideWith a p m x k n d o (c + e)) (replicate mostOrder (pos 0))
 four-with a p m x k n d o c =
-    added-twice 4 _ _ (replicate 16 (pos 0)) (omega arith)
-    ∙ fill-same 4 _ _ (replicate 16 (pos 0))
+    added-twice 4 _ _ (replicate mostOrder (pos 0)) (omega arith)
+    ∙ fill-same 4 _ _ (replicate mostOrder (pos 0))
     (λ e b. let h : o + c + e ≡ o + (c + e) = omega arith in rw (four-rows a p m x k n c e, h))
 
 pub four-more : (f : ℕ → ℤ) (g : ℕ) (t v : List ℤ) →
-    t ≡ added 4 (λ c. f (4 * g + c)) (replicate 16 (pos 0)) → v ≡ added (4 * g) f (replicate 16 (pos 0)) →
-    withFour (4 * g) t v ≡ added (4 * (g + 1)) f (replicate 16 (pos 0))
+    t ≡ added 4 (λ c. f (4 * g + c)) (replicate mostOrder (pos 0)) → v ≡ added (4 * g) f (replicate mostOrder (pos 0)) →
+    withFour (4 * g) t v ≡ added (4 * (g + 1)) f (replicate mostOrder (pos 0))
 four-more f g t v e h =
     let q : 4 * (g + 1) ≡ suc (suc (suc (suc (4 * g)))) = omega arith in
     rw (h, four 0 (omega arith), four 1 (omega arith), four 2 (omega arith), four 3 (omega arith), q)
-    (fill-four (λ c. at (replicate 16 (pos 0)) c +ℤ f c) (4 * g) (replicate 16 (pos 0)))
+    (fill-four (λ c. at (replicate mostOrder (pos 0)) c +ℤ f c) (4 * g) (replicate mostOrder (pos 0)))
   where
-    four : (c : ℕ) → c < 4 → at t c ≡ at (replicate 16 (pos 0)) (4 * g + c) +ℤ f (4 * g + c)
+    four : (c : ℕ) → c < 4 → at t c ≡ at (replicate mostOrder (pos 0)) (4 * g + c) +ℤ f (4 * g + c)
     four c b =
         ap (λ (u : List ℤ). at u c) e
-        ∙ fill-at 4 (λ c. at (replicate 16 (pos 0)) c +ℤ f (4 * g + c)) (replicate 16 (pos 0)) c b (omega arith)
-        ∙ rw (zero-at 16 c, zero-at 16 (4 * g + c))
+        ∙ fill-at 4 (λ c. at (replicate mostOrder (pos 0)) c +ℤ f (4 * g + c)) (replicate mostOrder (pos 0)) c b (omega arith)
+        ∙ rw (zero-at mostOrder c, zero-at mostOrder (4 * g + c))
 
 -- ---- V holds small numbers, whatever its place
 pub fill-small : {B : ℕ} (n : ℕ) (f : ℕ → ℤ) (v : List ℤ) → Bounded B v → ((k : ℕ) → k < n → Within B (f k)) →
@@ -411,7 +413,8 @@ pub columns-small : {a : List ℤ} {r : Row} {m : ℕ} {diagonal : ℤ} {x : Lis
     Bounded mostAllowance x → Bounded mostColumn (columnSums a r m diagonal x n)
 unfolding columnSums
 columns-small {x} n h q =
-    fill-small n _ (replicate 16 (pos 0)) (nothing 16) (λ k l. across-small h (inColumn x n k) (λ j. q .small (j * n + k)))
+    fill-small n _ (replicate mostOrder (pos 0)) (nothing mostOrder)
+    (λ k l. across-small h (inColumn x n k) (λ j. q .small (j * n + k)))
 
 -- the own term comes off before or after the diagonal's weight
 pub diagonal-first : (a : List ℤ) (r : Row) (m : ℕ) (diagonal columnDiagonal : ℤ) (v : List ℤ) (x : ℤ) →
@@ -424,7 +427,8 @@ diagonal-first a r m diagonal columnDiagonal v x = plain (entriesSum a r m (at v
 
 pub joint-small : {a : List ℤ} {r : Row} {m : ℕ} {diagonal columnDiagonal x : ℤ} {v : List ℤ} → Band a r m diagonal →
     Within mostEntry columnDiagonal → Bounded mostColumn v → Within mostAllowance x →
-    Within (16 * (mostEntry * mostColumn) + mostEntry * mostEntry * mostAllowance) (jointSum a r m diagonal columnDiagonal v x)
+    Within (mostOrder * (mostEntry * mostColumn) + mostEntry * mostEntry * mostAllowance)
+    (jointSum a r m diagonal columnDiagonal v x)
 unfolding jointSum
 joint-small {v} h u q g = within-- (across-small h (at v) (q .small)) (within-* (within-* u (h .small)) g)
 
@@ -438,7 +442,7 @@ pub columns-same : (a : List ℤ) {r : Row} {m : ℕ} (diagonal : ℤ) {n : ℕ}
     columnSums a r m diagonal x n ≡ columnSums a r m diagonal y n
 unfolding columnSums entriesSum
 columns-same a {r} {m} diagonal {n} h =
-    fill-same n _ _ (replicate 16 (pos 0))
+    fill-same n _ _ (replicate mostOrder (pos 0))
     (λ k l.
     ap₂ _+ℤ_
     (ap₂ _+ℤ_ (sum-cong (r .left) _ _ (λ j b. rw (h .left j k b l))) (sum-cong (r .right) _ _ (λ j b. rw (h .right j k b l))))
@@ -454,7 +458,7 @@ column-other x m n j z l k t b q =
     (sym (row-of 0 n t k b) ∙ ap (λ (u : ℕ). u / n) e ∙ row-of 0 n m j l))
 
 -- and the entries off the diagonal do not look at it
-pub rest-same : {a : List ℤ} {r : Row} (x : List ℤ) {m : ℕ} (n j : ℕ) (z : ℤ) → RowIn a 16 r m → j < n → (k : ℕ) → k < n →
+pub rest-same : {a : List ℤ} {r : Row} (x : List ℤ) {m : ℕ} (n j : ℕ) (z : ℤ) → RowIn a mostOrder r m → j < n → (k : ℕ) → k < n →
     entriesSum a r m (inColumn (set x (m * n + j) z) n k) ≡ entriesSum a r m (inColumn x n k)
 unfolding entriesSum
 rest-same {r} x {m} n j z h l k b =
@@ -462,9 +466,9 @@ rest-same {r} x {m} n j z h l k b =
     (sum-cong (r .left) _ _ (λ t c. let d = h .left in rw (column-other x m n j z l k t b (λ e f. omega arith))))
     (sum-cong (r .right) _ _ (λ t c. rw (column-other x m n j z l k (suc m + t) b (λ e f. omega arith))))
 
-pub rest-sums-small : {a : List ℤ} {r : Row} {m : ℕ} {x : List ℤ} (n : ℕ) → RowIn a 16 r m → Bounded mostAllowance x →
+pub rest-sums-small : {a : List ℤ} {r : Row} {m : ℕ} {x : List ℤ} (n : ℕ) → RowIn a mostOrder r m → Bounded mostAllowance x →
     Bounded mostColumn (restSums a r m x n)
 unfolding restSums
 rest-sums-small {x} n h q =
-    fill-small n _ (replicate 16 (pos 0)) (nothing 16)
+    fill-small n _ (replicate mostOrder (pos 0)) (nothing mostOrder)
     (λ k l. within-le (omega arith) (entries-small (no-diagonal h) (inColumn x n k) (λ j. q .small (j * n + k))))

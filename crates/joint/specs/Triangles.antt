@@ -15,7 +15,7 @@ use Rattle.rules.specs.declared.Rule.{Rule}
 use Rattle.rules.specs.declared.Kind.the-variants.{Lower, Upper}
 use Rattle.rules.specs.Sheets.{triangle}
 use Rattle.rules.specs.Factors.{above}
-use Rattle.rules.specs.Numbers.{bound, at}
+use Rattle.rules.specs.Numbers.{mostOrder, mostCells, bound, at}
 use Rattle.factor.specs.declared.Layout.{Layout}
 use Rattle.factor.specs.Layouts.{rowBy, rowOf}
 use Rattle.factor.specs.SumBounds.{Bounded, bounded-le}
@@ -38,7 +38,7 @@ totalOf s f j v = across s (rowOf f j) j (diagonalOf (signAt s f j)) (at v)
 
 -- what a run of elements asks of the row that starts at place k and has the sign d and the sums v
 abbrev pub RunGiven : List ℤ → Layout → ℤ → List ℤ → ℕ → List ℤ → Type 0
-RunGiven s f d v k x = InSheet s f × Sign d × Bounded mostColumn v × (k + f .order ≤ 256) × Bounded bound x × (0 < f .order)
+RunGiven s f d v k x = InSheet s f × Sign d × Bounded mostColumn v × (k + f .order ≤ mostCells) × Bounded bound x × (0 < f .order)
 
 -- what the element at place e becomes, w the block as it stands
 unfoldable pub appliedIn : Rule → List ℤ → Layout → ℤ → List ℤ → ℕ → List ℤ → ℕ → ℤ
@@ -96,7 +96,7 @@ upper-next f j e = rw (upper-at f j e, upper-at f (j + 1) e, add-one) (omega ari
 
 -- the rows of the block that row i of a factor has entries for, and the sums over them: p is where its entries start
 module _ {s : List ℤ} {f : Layout} (h : InSheet s f) {i : ℕ} (l : i < f .order) {x : List ℤ} (q : Bounded bound x) {n : ℕ}
-    (few : n ≤ 16) {p : ℕ} (z : p ≡ rowOf f i .at) where
+    (few : n ≤ mostOrder) {p : ℕ} (z : p ≡ rowOf f i .at) where
   pub lower-side : f .kind ≡ Lower → Side s p i x 0 n
   lower-side e =
       rw z (rw (lower-left f i e) at (above-side (row-wide (h .order) (h .row i l)) few (bounded-le (omega arith) q)))
@@ -108,18 +108,18 @@ module _ {s : List ℤ} {f : Layout} (h : InSheet s f) {i : ℕ} (l : i < f .ord
       (rw (upper-left f i e, upper-right f i e, w, add-zero) at
       (below-side (row-wide (h .order) (h .row i l)) few (bounded-le (omega arith) q)))
 
-  pub lower-rest : f .kind ≡ Lower → added n (rowsSum s p i x 0 n) (replicate 16 (pos 0)) ≡ restSumsAt s f i x n
+  pub lower-rest : f .kind ≡ Lower → added n (rowsSum s p i x 0 n) (replicate mostOrder (pos 0)) ≡ restSumsAt s f i x n
   lower-rest e = rest-left s (rowOf f i) i x n p i z (sym (lower-left f i e)) (lower-right f i e)
 
   pub upper-rest : f .kind ≡ Upper → {m : ℕ} → m ≡ f .order - 1 - i →
-      added n (rowsSum s p m x ((i + 1) * n) n) (replicate 16 (pos 0)) ≡ restSumsAt s f i x n
+      added n (rowsSum s p m x ((i + 1) * n) n) (replicate mostOrder (pos 0)) ≡ restSumsAt s f i x n
   upper-rest e {m} g =
       let w : m ≡ f .order - suc i = rw g (omega arith) in
       rest-right s (rowOf f i) i x n p m z (w ∙ sym (upper-right f i e)) (upper-left f i e)
 
   -- with the row's own numbers
-  pub with-own : (m k : ℕ) → added n (rowsSum s p m x k n) (replicate 16 (pos 0)) ≡ restSumsAt s f i x n →
-      added n (sideWith s p m x k n (diagonalOf (signAt s f i)) (i * n)) (replicate 16 (pos 0)) ≡ sumsAt s f i x n
+  pub with-own : (m k : ℕ) → added n (rowsSum s p m x k n) (replicate mostOrder (pos 0)) ≡ restSumsAt s f i x n →
+      added n (sideWith s p m x k n (diagonalOf (signAt s f i)) (i * n)) (replicate mostOrder (pos 0)) ≡ sumsAt s f i x n
   with-own m k e = rest-with s (rowOf f i) i x n (diagonalOf (signAt s f i)) p m k few e
 
 -- an element from its whole sum
@@ -151,11 +151,11 @@ applied-row rule c fa r fb i x h =
 -- ---- a row, where the code has its order as n
 module _ {c r x : List ℤ} {fa fb : Layout} {i n : ℕ} (h : RowAsks c fa r fb i x) (e : n ≡ fb .order) where
   -- it lies in the block
-  pub asks-room : i * n + n ≤ 256
+  pub asks-room : i * n + n ≤ mostCells
   asks-room = rw e (row-room (h .column .order) (h .row .order) (h .below))
 
   -- its sums start from nothing
-  pub asks-sums : RowGiven c fa i x n (replicate 16 (pos 0))
+  pub asks-sums : RowGiven c fa i x n (replicate mostOrder (pos 0))
   asks-sums = (h .column, h .below, rw e (h .row .order), h .small, refl)
 
   -- then come its elements, and they are the row

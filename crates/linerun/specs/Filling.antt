@@ -10,7 +10,7 @@ use lib.IntN.{ℤ, natAbs}
 use lib.ListN.{length, set}
 use Rattle.whole.specs.Diff.{Within}
 use Rattle.rules.specs.declared.Rule.{Rule}
-use Rattle.rules.specs.Numbers.{bound, at}
+use Rattle.rules.specs.Numbers.{mostOrder, bound, at}
 use Rattle.rules.specs.Stages.{fill}
 use Rattle.rules.specs.Laws.Lists.{fill-at}
 use Rattle.factor.specs.declared.Layout.{Layout}
@@ -52,7 +52,7 @@ module _ {n : ℕ} {g : ℕ → List ℤ} {p : ℕ → ℕ} {z : ℕ → ℤ} (f
   pub filled-done : {t : ℕ} {y : List ℤ} → t ≡ n → Filled g t y → Step bound n (g n) true y
   filled-done e h = step-goes (h .is ∙ ap g e) (h .small)
 
-module _ (rule : Rule) {s : List ℤ} {f : Layout} (h : InSheet s f) (x : List ℤ) (wide : length x ≡ 16) where
+module _ (rule : Rule) {s : List ℤ} {f : Layout} (h : InSheet s f) (x : List ℤ) (wide : length x ≡ mostOrder) where
   -- applied: each element of the old block
   pub applied-fills :
       Filling (f .order) (λ t. fill t (appliedAt rule s f x) x) (λ t. t) (appliedAt rule s f x)

@@ -13,7 +13,7 @@ use Rattle.whole.specs.Stated.{sum}
 use Rattle.rules.specs.declared.Kind.the-variants.{Lower, Upper, Single}
 use Rattle.rules.specs.declared.Rule.{Rule}
 use Rattle.rules.specs.declared.Rule.the-variants.{Nearest}
-use Rattle.rules.specs.Numbers.{unit, mostAllowance, at}
+use Rattle.rules.specs.Numbers.{mostOrder, unit, mostAllowance, at}
 use Rattle.rules.specs.Sheets.{triangle}
 use Rattle.rules.specs.Factors.{above}
 use Rattle.rules.specs.Stages.{R}
@@ -70,7 +70,8 @@ plus-none z = simp lia (omega arith)
 none-plus : (z : ℤ) → z ≡ pos 0 +ℤ z
 none-plus z = simp lia (omega arith)
 
-module _ {s x : List ℤ} {r : Row} {m : ℕ} (h : RowIn s 16 r m) (k : Bounded mostAllowance x) (wide : length x ≡ 16) where
+module _ {s x : List ℤ} {r : Row} {m : ℕ} (h : RowIn s mostOrder r m) (k : Bounded mostAllowance x)
+    (wide : length x ≡ mostOrder) where
   pub left-along : {n : ℕ} → n ≡ r .left → r .right ≡ 0 → sum n (λ j. at (drop (r .at) s) j *ℤ at x j) ≡ along (at s) r m x
   unfolding sum
   left-along l e =

@@ -10,7 +10,7 @@ use native.Mathlib.Omega.{arith}
 use Prim.Native.Nat.{ℕ, _+_, _*_, _/_, _%_, _≤_, _<_}
 use lib.IntN.{ℤ}
 use lib.ListN.{length}
-use Rattle.rules.specs.Numbers.{at}
+use Rattle.rules.specs.Numbers.{mostCells, at}
 use Rattle.rules.specs.GoodStages.{Permutes}
 use Rattle.rules.specs.Laws.Lists.{same-list}
 use Rattle.rules.specs.Laws.Rectangles.{row-below, col-below, element-below, row-of, col-of, pair-permutes}
@@ -25,7 +25,7 @@ unfoldable pub sourceOf : List ℤ → Layout → List ℤ → Layout → ℕ �
 sourceOf c fa r fb e = permutationAt c fa (e / fb .order) * fb .order + permutationAt r fb (e % fb .order)
 
 -- a block of two orders
-pub few : {c r : List ℤ} {fa fb : Layout} → Moves c fa → Moves r fb → fa .order * fb .order ≤ 256
+pub few : {c r : List ℤ} {fa fb : Layout} → Moves c fa → Moves r fb → fa .order * fb .order ≤ mostCells
 few h k = mul-le-mul (h .order) (k .order)
 
 -- lines of n numbers, s apart, each line w places after the one before it: no place stands on two of them, or twice on one

@@ -11,7 +11,7 @@ use lib.IntN.{ℤ}
 use lib.ListN.{length}
 use Rattle.rules.specs.declared.Kind.the-variants.{Permutation}
 use Rattle.rules.specs.declared.Rule.{Rule}
-use Rattle.rules.specs.Numbers.{bound}
+use Rattle.rules.specs.Numbers.{mostCells, bound}
 use Rattle.rules.specs.Laws.Membership.{true-false}
 use Rattle.factor.specs.declared.Layout.{Layout}
 use Rattle.factor.specs.declared.run.Task.{Task}
@@ -35,18 +35,18 @@ pub record Weighable (task : Task) (c : List ℤ) (fa : Layout) (r : List ℤ) (
   pub alike : fa .kind ≡ fb .kind
   pub weighs : fb .kind ≢ Permutation
   pub small : Bounded (limitOf task) x
-  pub long : length x ≡ 256
+  pub long : length x ≡ mostCells
 
 module _ (task : Task) (rule : Rule) (c : List ℤ) (fa : Layout) (r : List ℤ) (fb : Layout) (x : List ℤ) where
   -- all rows, or a number beyond the bound
   abbrev pub Weighed : Bool → List ℤ → Type 0
-  Weighed ok y = Step (limitOf task) (fa .order * fb .order) (weightsOf task rule c fa r fb x) ok y × (length y ≡ 256)
+  Weighed ok y = Step (limitOf task) (fa .order * fb .order) (weightsOf task rule c fa r fb x) ok y × (length y ≡ mostCells)
 
   -- the rows of s turns
   pub record Rows (s : ℕ) (y : List ℤ) : Type 0 where
     pub block : y ≡ inPlace (elementOf task rule c fa r fb x) (pairOrder task fa fb) (s * fb .order) x
     pub small : Bounded (limitOf task) y
-    pub long : length y ≡ 256
+    pub long : length y ≡ mostCells
 
 module _ {task : Task} {c : List ℤ} {fa : Layout} {r : List ℤ} {fb : Layout} {x : List ℤ} (h : Weighable task c fa r fb x) where
   pub turn-below : {s i : ℕ} → s < fa .order → i ≡ nthRow task fa s → i < fa .order
@@ -56,7 +56,7 @@ module _ {task : Task} {c : List ℤ} {fa : Layout} {r : List ℤ} {fb : Layout}
   no-rows = record { block = no-row _ _ _ _; small = h .small; long = h .long }
 
   -- rows leave a block of which the next ones ask the same
-  pub still : {y : List ℤ} → Bounded (limitOf task) y → length y ≡ 256 → Weighable task c fa r fb y
+  pub still : {y : List ℤ} → Bounded (limitOf task) y → length y ≡ mostCells → Weighable task c fa r fb y
   still b l = record {
     column = h .column;
     row = h .row;

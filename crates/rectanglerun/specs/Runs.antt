@@ -5,7 +5,7 @@ use Prim.Native.Nat.{ℕ, suc, _+_, _-_, _*_, _≤_, _<_}
 use native.Mathlib.Nat.{mul-le-mul, sub-self, sub-zero}
 use native.Mathlib.Omega.{arith}
 use lib.IntN.{ℤ}
-use Rattle.rules.specs.Numbers.{count}
+use Rattle.rules.specs.Numbers.{mostCells, count}
 use Rattle.rules.specs.Sheets.{kindOf}
 use Rattle.rules.specs.Factors.{factorAt, factorsFrom, factors}
 use Rattle.rules.specs.Stages.{Stage, Ran}
@@ -69,7 +69,7 @@ module _ {c r : List ℤ} (m : Matched c r) where
   pub stages-good : AllGood (sizeOf c r) (jointStagesOf c r)
   stages-good = joints-good (sheets-match (m .column) (m .row) (m .match))
 
-  pub size-most : sizeOf c r ≤ 256
+  pub size-most : sizeOf c r ≤ mostCells
   size-most = mul-le-mul (accepted-order (m .column) .most) (accepted-order (m .row) .most)
 
 module _ (c r : List ℤ) where

@@ -12,7 +12,7 @@ use Rattle.whole.specs.Stated.{sum}
 use Rattle.whole.specs.Sum.{sum-cong}
 use Rattle.rules.specs.declared.Kind.{Kind}
 use Rattle.rules.specs.declared.Kind.the-variants.{Permutation}
-use Rattle.rules.specs.Numbers.{unit², mostOrder, at, count}
+use Rattle.rules.specs.Numbers.{mostOrder, mostCells, unit², at, count}
 use Rattle.rules.specs.Sheets.{kindOf}
 use Rattle.rules.specs.Factors.{Factor, signsAt, factorAt, matrix}
 use Rattle.rules.specs.declared.Rule.{Rule}
@@ -83,7 +83,7 @@ module _ (c r : List ℤ) (n1 n2 a b : ℕ) where
     sums-there : (x : List ℤ) (i k : ℕ) → i < n1 → k < n2 →
         at (sumsAt c fa i x n2) k ≡ sum n1 (λ l. matrix A i l *ℤ at x (l * n2 + k))
     unfolding columnSums
-    sums-there x i k l g = fill-at n2 _ (replicate 16 (pos 0)) k g t2 ∙ across-row ha q i l (inColumn x n2 k)
+    sums-there x i k l g = fill-at n2 _ (replicate mostOrder (pos 0)) k g t2 ∙ across-row ha q i l (inColumn x n2 k)
 
     -- the sum of an element
     element-is : (x : List ℤ) (e : ℕ) → e < n1 * n2 →
@@ -129,7 +129,7 @@ module _ (c r : List ℤ) (n1 n2 a b : ℕ) where
           at (magnitudeSums c fa i x n2) k ≡ sum n1 (λ l. pos (natAbs (matrix A i l)) *ℤ at x (l * n2 + k))
       unfolding columnSums
       magnitude-sums-there x i k l g =
-          fill-at n2 _ (replicate 16 (pos 0)) k g t2 ∙ magnitudes-row-is t1 ha q i l (inColumn x n2 k)
+          fill-at n2 _ (replicate mostOrder (pos 0)) k g t2 ∙ magnitudes-row-is t1 ha q i l (inColumn x n2 k)
 
       sizes-are : (x : List ℤ) (e : ℕ) → e < n1 * n2 →
           magnitudeSum r fb (e % n2) (magnitudeSums c fa (e / n2) x n2) (at x e) ≡ weighed (n1 * n2)
@@ -273,7 +273,7 @@ pub record Paired (c r : List ℤ) (n1 n2 i j : ℕ) : Type 0 where
 -- ---- a pair of factors with weights, as the code learns it: by its layouts
 module _ {c r : List ℤ} {n1 n2 i j : ℕ} (p : Paired c r n1 n2 i j) {fa fb : Layout} (ea : fa ≡ layoutAt c n1 i)
     (eb : fb ≡ layoutAt r n2 j) (m : isMove (fb .kind) ≡ false) (run : Run) {task : Task} (t : run .task ≡ task)
-    {x : List ℤ} (small : Bounded (limitOf (run .task)) x) (long : length x ≡ 256) where
+    {x : List ℤ} (small : Bounded (limitOf (run .task)) x) (long : length x ≡ mostCells) where
   weighs : kindOf (count r j) ≢ Permutation
   unfolding layoutAt layoutBy
   weighs = move-no _ (ap (λ (f : Layout). isMove (f .kind)) (sym eb) ∙ m)
@@ -294,7 +294,7 @@ module _ {c r : List ℤ} {n1 n2 i j : ℕ} (p : Paired c r n1 n2 i j) {fa fb : 
   -- all rows are the stage
   pub stage-weighed : {ok : Bool} {y : List ℤ} → Weighed task (run .rule) c fa r fb x ok y →
       Step (limitOf (run .task)) (n1 * n2) (takenBy run (n1 * n2) (jointStage n1 n2 (factorAt c n1 i) (factorAt r n2 j)) x) ok y
-      × (length y ≡ 256)
+      × (length y ≡ mostCells)
   unfolding layoutAt layoutBy
   stage-weighed {ok} {y} w =
       let room : n1 * n2 ≤ length x = omega (arith, long, mul-le-mul (p .most1) (p .most2)) in

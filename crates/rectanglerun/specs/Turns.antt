@@ -9,7 +9,7 @@ use lib.IntN.{ℤ, pos}
 use lib.ListN.{length, replicate}
 use Rattle.rules.specs.declared.Answer.{Answer}
 use Rattle.rules.specs.declared.Kind.the-variants.{Permutation}
-use Rattle.rules.specs.Numbers.{bound, at, count}
+use Rattle.rules.specs.Numbers.{mostCells, bound, at, count}
 use Rattle.rules.specs.Sheets.{kindOf}
 use Rattle.rules.specs.Factors.{signsAt}
 use Rattle.rules.specs.Stages.{Ran, done, beyond, fill, inside}
@@ -60,8 +60,8 @@ progress-stops h = record { passes = λ e. let z : _≡_ {A = ℕ} 0 1 = cc in a
 -- the copy in: the run of the lent numbers, after the stages that it made
 pub record Loaded (run : Run) (c r x : List ℤ) (t : ℕ) (block : List ℤ) : Type 0 where
   pub few : t ≤ count c 1
-  pub stands : StandsAt run c r (jointRunBy run c r (paddedBlock 256 x)) t block
-  pub long : length block ≡ 256
+  pub stands : StandsAt run c r (jointRunBy run c r (paddedBlock mostCells x)) t block
+  pub long : length block ≡ mostCells
 
 -- ---- the factors in turn t
 abbrev pub inTurn : List ℤ → Task → ℕ → ℕ
@@ -149,21 +149,21 @@ module _ {c r : List ℤ} (m : Matched c r) (run : Run) where
         (step-goes refl (rw (← (made-is v)) (moved-bounded (isInverse (run .task)) _ _ (s .small)))) refl
 
     -- from the lent numbers over zeros it is the stage of the block in its room
-    moved-in : {x b : List ℤ} → length x ≡ sizeOf c r → MovedInTurn (run .task) c r t x (replicate 256 (pos 0)) b →
-        b ≡ made (paddedBlock 256 x)
+    moved-in : {x b : List ℤ} → length x ≡ sizeOf c r → MovedInTurn (run .task) c r t x (replicate mostCells (pos 0)) b →
+        b ≡ made (paddedBlock mostCells x)
     moved-in {x} {b} long h =
         into-moved (isInverse (run .task)) (column-places .permutes) (row-places .permutes) w room front
         (moved-over h (length-fill _ _ zs) behind)
         ∙ made-is w
-        ∙ ap made (load-is 256 x few)
+        ∙ ap made (load-is mostCells x few)
       where
         zs : List ℤ
-        zs = replicate 256 (pos 0)
+        zs = replicate mostCells (pos 0)
 
         w : List ℤ
         w = fill (length x) (at x) zs
 
-        few : length x ≤ 256
+        few : length x ≤ mostCells
         few = omega (arith, size-most m)
 
         room : sizeOf c r ≤ length w
@@ -176,7 +176,7 @@ module _ {c r : List ℤ} (m : Matched c r) (run : Run) where
         behind k d = fill-past (length x) (at x) zs k (omega arith)
 
     -- the copy out makes the last stage
-    pub stores-moved : {v y z : List ℤ} → t + 1 ≡ count c 1 → length v ≡ 256 → length y ≡ sizeOf c r →
+    pub stores-moved : {v y z : List ℤ} → t + 1 ≡ count c 1 → length v ≡ mostCells → length y ≡ sizeOf c r →
         MovedInTurn (run .task) c r t v y z →
         Stored run c r t v y z
     stores-moved {v} {y} last lv ly h ran s =
@@ -190,20 +190,20 @@ module _ {c r : List ℤ} (m : Matched c r) (run : Run) where
 
   -- the copy in, with the first stage and without it
   pub loads-moved : (l : 0 < count c 1) (q : movesInTurn c (run .task) 0 ≡ true) {x b : List ℤ} → length x ≡ sizeOf c r →
-      inside bound (length x) x ≡ true → MovedInTurn (run .task) c r 0 x (replicate 256 (pos 0)) b →
+      inside bound (length x) x ≡ true → MovedInTurn (run .task) c r 0 x (replicate mostCells (pos 0)) b →
       Loaded run c r x 1 b
   loads-moved l q {x} long h e = record {
     few = l;
-    stands = rw (moved-in 0 l q long e) (moves-on 0 l q (stands-first (start-bounded 256 (run .task) x h)));
+    stands = rw (moved-in 0 l q long e) (moves-on 0 l q (stands-first (start-bounded mostCells (run .task) x h)));
     long = e .long;
   }
 
-  pub loads-copied : {x b : List ℤ} → length x ≤ 256 → inside bound (length x) x ≡ true →
-      b ≡ fill (length x) (at x) (replicate 256 (pos 0)) →
+  pub loads-copied : {x b : List ℤ} → length x ≤ mostCells → inside bound (length x) x ≡ true →
+      b ≡ fill (length x) (at x) (replicate mostCells (pos 0)) →
       Loaded run c r x 0 b
   loads-copied {x} few h e = record {
     few = omega arith;
-    stands = rw (e ∙ load-is 256 x few) (stands-first (start-bounded 256 (run .task) x h));
+    stands = rw (e ∙ load-is mostCells x few) (stands-first (start-bounded mostCells (run .task) x h));
     long = ap length e ∙ length-fill _ _ _;
   }
 

@@ -17,7 +17,7 @@ use Rattle.whole.specs.Stated.{sum}
 use Rattle.whole.specs.Sum.{sum-cong, sum-split, sum-first}
 use Rattle.rules.specs.declared.Kind.the-variants.{Single}
 use Rattle.rules.specs.declared.Rule.{Rule}
-use Rattle.rules.specs.Numbers.{mostEntry, bound, at}
+use Rattle.rules.specs.Numbers.{mostOrder, mostCells, mostEntry, bound, at}
 use Rattle.rules.specs.Stages.{fill}
 use Rattle.rules.specs.Laws.Lists.{fill-at}
 use Rattle.factor.specs.declared.Layout.{Layout}
@@ -36,10 +36,10 @@ unfoldable pub entryIn : List ℤ → Layout → ℕ → ℤ
 entryIn s f j = cond (ltb j (f .row)) (at s (f .entries + j)) (cond (eqb j (f .row)) (pos 0) (at s (f .entries + (j - 1))))
 
 abbrev pub entriesLaid : List ℤ → Layout → List ℤ
-entriesLaid s f = fill (f .order) (entryIn s f) (replicate 16 (pos 0))
+entriesLaid s f = fill (f .order) (entryIn s f) (replicate mostOrder (pos 0))
 
 abbrev pub signsLaid : List ℤ → Layout → List ℤ
-signsLaid s f = fill (f .order) (signAt s f) (replicate 16 (pos 0))
+signsLaid s f = fill (f .order) (signAt s f) (replicate mostOrder (pos 0))
 
 -- both, where rows have n numbers
 pub record Laid (s : List ℤ) (f : Layout) (n : ℕ) (g w : List ℤ) : Type 0 where
@@ -85,11 +85,11 @@ module _ {s : List ℤ} {f : Layout} (h : InSheet s f) (single : f .kind ≡ Sin
 module _ {s : List ℤ} {f : Layout} {n : ℕ} {g w : List ℤ} (laid : Laid s f n g w) (h : InSheet s f) where
   pub laid-sign : (j : ℕ) → j < n → at g j ≡ signAt s f j
   laid-sign j l =
-      rw (laid .signs) (fill-at (f .order) _ (replicate 16 (pos 0)) j (let e = laid .order in omega arith) (h .order))
+      rw (laid .signs) (fill-at (f .order) _ (replicate mostOrder (pos 0)) j (let e = laid .order in omega arith) (h .order))
 
   laid-entry : (j : ℕ) → j < n → at w j ≡ entryIn s f j
   laid-entry j l =
-      rw (laid .entries) (fill-at (f .order) _ (replicate 16 (pos 0)) j (let e = laid .order in omega arith) (h .order))
+      rw (laid .entries) (fill-at (f .order) _ (replicate mostOrder (pos 0)) j (let e = laid .order in omega arith) (h .order))
 
   -- one sum over all columns is the two runs of the row's entries
   pub laid-sum : f .kind ≡ Single → f .row < f .order → (k : ℕ) (x : List ℤ) →
@@ -129,7 +129,7 @@ module _ {s : List ℤ} {f : Layout} {n : ℕ} {g w : List ℤ} (laid : Laid s f
 -- ---- a row of the block
 module _ {c : List ℤ} {fa : Layout} {s : List ℤ} {fb : Layout} {i : ℕ} {x : List ℤ} (a : RowAsks c fa s fb i x)
     {n : ℕ} {g w : List ℤ} (laid : Laid s fb n g w) where
-  pub laid-room : i * n + n ≤ 256
+  pub laid-room : i * n + n ≤ mostCells
   laid-room =
       let l = a .low in
       let h = in-block (fb .order - 1) (a .column .order) (a .row .order) (a .below) (omega arith) in

@@ -18,7 +18,7 @@ use Rattle.whole.specs.Sum.{sum-cong, sum-scale, sum-within}
 use Rattle.rules.specs.declared.Kind.the-variants.{Single}
 use Rattle.rules.specs.declared.Rule.{Rule}
 use Rattle.rules.specs.declared.Rule.the-variants.{Nearest}
-use Rattle.rules.specs.Numbers.{unit, unit², mostEntry, bound, at}
+use Rattle.rules.specs.Numbers.{mostOrder, mostCells, mostEntry, unit, unit², bound, at}
 use Rattle.rules.specs.Stages.{R}
 use Rattle.rules.specs.Laws.Lists.{fill-at}
 use Rattle.factor.specs.declared.Layout.{Layout}
@@ -62,22 +62,22 @@ OneRow f = (m : ℕ) → m ≢ f .row → rowOf f m ≡ row (f .entries) 0 0
 -- ---- what the code asks
 -- n entries, and numbers of the block from place k on
 pub record Narrow (w x : List ℤ) (k n : ℕ) : Type 0 where
-  pub few : n ≤ 16
-  pub places : k + n ≤ 256
+  pub few : n ≤ mostOrder
+  pub places : k + n ≤ mostCells
   pub entries : (j : ℕ) → j < n → Within mostEntry (at w j)
   pub numbers : Bounded bound x
 
 -- the signs g of n columns, and the block's row from place k on, whose sign is d
 pub record SignsGiven (g : List ℤ) (n : ℕ) (d : ℤ) (k : ℕ) (x : List ℤ) : Type 0 where
-  pub few : n ≤ 16
-  pub places : k + n ≤ 256
+  pub few : n ≤ mostOrder
+  pub places : k + n ≤ mostCells
   pub sign : Sign d
   pub signs : (j : ℕ) → j < n → Sign (at g j)
   pub numbers : Bounded bound x
 
 -- what the sign of an element asks, and that it is one
 module _ {g : List ℤ} {n : ℕ} {d : ℤ} {k : ℕ} {x : List ℤ} (h : SignsGiven g n d k x) (j : ℕ) (l : j < n) where
-  pub sign-asks : (j < 16) × Sign d × Sign (at g j)
+  pub sign-asks : (j < mostOrder) × Sign d × Sign (at g j)
   sign-asks = ((let f = h .few in omega arith), h .sign, h .signs j l)
 
   pub both-sign : Sign (d *ℤ at g j)
@@ -85,7 +85,7 @@ module _ {g : List ℤ} {n : ℕ} {d : ℤ} {k : ℕ} {x : List ℤ} (h : SignsG
 
 -- ---- sizes
 abbrev pub mostBeside : ℕ
-mostBeside = 16 * (mostEntry * bound)
+mostBeside = mostOrder * (mostEntry * bound)
 
 pub narrow-small : {w x : List ℤ} {k n : ℕ} → Narrow w x k n → (i : ℕ) → i ≤ n → Within mostBeside (narrowSum w x k i)
 narrow-small {n} t i l =
@@ -159,7 +159,7 @@ module _ (c : List ℤ) (fa : Layout) (i : ℕ) (single : fa .kind ≡ Single) (
   own-sums : (m : ℕ) → m < fb .order → at (sumsAt c fa i x (fb .order)) m ≡ diagonalOf d *ℤ at x (k + m)
   unfolding columnSums
   own-sums m b =
-      fill-at (fb .order) _ (replicate 16 (pos 0)) m b (h .order)
+      fill-at (fb .order) _ (replicate mostOrder (pos 0)) m b (h .order)
       ∙ rw (one-row fa single i beside, no-sum c (fa .entries) i (λ t. at x (t * fb .order + m)))
       (+ℤ-idl (diagonalOf d *ℤ at x (k + m)))
 

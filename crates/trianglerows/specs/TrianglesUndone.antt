@@ -17,7 +17,7 @@ use Rattle.laws.specs.Tests.{apart}
 use Rattle.rules.specs.declared.Rule.{Rule}
 use Rattle.rules.specs.declared.Kind.the-variants.{Lower, Upper}
 use Rattle.rules.specs.Factors.{above}
-use Rattle.rules.specs.Numbers.{unit, bound, at}
+use Rattle.rules.specs.Numbers.{mostOrder, mostCells, unit, bound, at}
 use Rattle.rules.specs.Laws.Lists.{length-fill}
 use Rattle.factor.specs.declared.Layout.{Layout}
 use Rattle.factor.specs.SumBounds.{Bounded, bounded-le, bounded-set}
@@ -46,7 +46,7 @@ recentOf v q (suc t) = at v (q t)
 pub record Recovered (c : List ℤ) (fa : Layout) (i : ℕ) (fb : Layout) (t : ℕ) (x v : List ℤ) : Type 0 where
   pub sums : RecoveredSums c fa i fb t x v
   pub small : Bounded mostColumn v
-  pub long : length v ≡ 16
+  pub long : length v ≡ mostOrder
 
 -- what a run of turns asks, t of them being done
 pub record UndoGiven (c : List ℤ) (fa : Layout) (r : List ℤ) (fb : Layout) (i t : ℕ) (x v : List ℤ) : Type 0 where
@@ -55,7 +55,7 @@ pub record UndoGiven (c : List ℤ) (fa : Layout) (r : List ℤ) (fb : Layout) (
   pub below : i < fa .order
   pub low : fb .row < fb .order
   pub small : Bounded bound x
-  pub long : length x ≡ 256
+  pub long : length x ≡ mostCells
   pub recovered : Recovered c fa i fb t x v
 
 -- the place of the element in turn u
