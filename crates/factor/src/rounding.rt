@@ -12,8 +12,8 @@ ghost use Rattle.rules.specs.Stages.{R, Rounds, share, ceiling};
 use rules::Rule;
 use rules::Scale;
 
-// "R(s) is the floor of (s + 2048)/4096", also below zero: 4096·r ≤ s + 2048 < 4096·r + 4096. A shift to the right is that floor.
-// So -2048 gives 0 and -2049 gives -1 (`roundings`).
+// "R(s) is the floor of (s + 2048)/4096", also below zero: 4096·r ≤ s + 2048 < 4096·r + 4096. A shift to the right is that
+// floor. So -2048 gives 0 and -2049 gives -1 (`roundings`).
 pub fn round_line(rule: Rule, s: i64) -> i64
     requires { ⌜ SFits w64 (s +ℤ pos (unit / 2)) × SFits w64 (R rule unit s) ⌝ }
     ensures { λ r. ⌜ (r ≡ R rule unit s) × Rounds rule unit s r ⌝ }

@@ -101,7 +101,8 @@ fn sums_by_fours(
     v: &mut [i64; Block::LINE],
 )
     requires { ⌜ Side (now a) p m (now x) k n × (now v ≡ replicate mostOrder (pos 0)) × (n % 4 ≡ 0) ⌝ }
-    ensures { λ _. ⌜ now (v .exit) ≡ added n (rowsSum (now (a .entry)) p m (now (x .entry)) k n) (replicate mostOrder (pos 0)) ⌝ }
+    ensures { λ _. ⌜ now (v .exit) ≡ added n (rowsSum (now (a .entry)) p m (now (x .entry)) k n)
+        (replicate mostOrder (pos 0)) ⌝ }
 {
     for g in 0..n / 4 {
         let mut t = [0i64; Block::LINE];
@@ -121,7 +122,8 @@ pub fn side_sums(
     v: &mut [i64; Block::LINE],
 )
     requires { ⌜ Side (now a) p m (now x) k n × (now v ≡ replicate mostOrder (pos 0)) ⌝ }
-    ensures { λ _. ⌜ now (v .exit) ≡ added n (rowsSum (now (a .entry)) p m (now (x .entry)) k n) (replicate mostOrder (pos 0)) ⌝ }
+    ensures { λ _. ⌜ now (v .exit) ≡ added n (rowsSum (now (a .entry)) p m (now (x .entry)) k n)
+        (replicate mostOrder (pos 0)) ⌝ }
 {
     if is_by_fours(n, 8) {
         sums_by_fours(a, p, m, x, k, n, v);

@@ -70,7 +70,8 @@ pub fn run_four(run: Run, sheet: &[i32], starts: &[u16; Sheet::FACTORS], x: &[i3
     requires { ⌜ Accepted (now sheet) × Starts (now sheet) (now starts)
         × (length (now x) ≡ inputsOf (run .task) (count (now sheet) 0)) ⌝ }
     ensures { λ r. ⌜ (r .ok ≡ true → (count (now (sheet .entry)) 0 ≡ 4)
-        × (ran run (count (now (sheet .entry)) 0) (lineStagesOf (now (sheet .entry))) (now (x .entry)) ≡ done (r .block))) ⌝ }
+        × (ran run (count (now (sheet .entry)) 0) (lineStagesOf (now (sheet .entry))) (now (x .entry))
+        ≡ done (r .block))) ⌝ }
 {
     let task = run.task;
     if !is_four(task, count_at(sheet, 0)) {

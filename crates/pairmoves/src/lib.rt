@@ -28,7 +28,8 @@ fn move_row(
     k: usize,
 )
     requires { ⌜ Places (now row) q n × (o + n ≤ length (now old)) × (k + n ≤ length (now x)) ⌝ }
-    ensures { λ _. ⌜ now (x .exit) ≡ movedRow back n (placeAt (now (row .entry)) q) (now (old .entry)) o k (now (x .entry)) ⌝ }
+    ensures { λ _. ⌜ now (x .exit) ≡ movedRow back n (placeAt (now (row .entry)) q) (now (old .entry)) o k
+        (now (x .entry)) ⌝ }
 {
     for j in 0..n {
         let place = count_at(row, q + j);
@@ -51,7 +52,8 @@ fn move_rows(
     old: &[i32],
     x: &mut [i32],
 )
-    requires { ⌜ Places (now col) p n1 × Places (now row) q n2 × (n1 * n2 ≤ length (now old)) × (n1 * n2 ≤ length (now x)) ⌝ }
+    requires { ⌜ Places (now col) p n1 × Places (now row) q n2 × (n1 * n2 ≤ length (now old))
+        × (n1 * n2 ≤ length (now x)) ⌝ }
     ensures { λ _. ⌜ MovedInto back (now (col .entry)) p n1 (now (row .entry)) q n2 (now (old .entry)) (now (x .entry))
         (now (x .exit)) ⌝ }
 {
@@ -76,7 +78,8 @@ pub fn move_into(
     old: &[i32],
     x: &mut [i32],
 )
-    requires { ⌜ Places (now col) p n1 × Places (now row) q n2 × (n1 * n2 ≤ length (now old)) × (n1 * n2 ≤ length (now x)) ⌝ }
+    requires { ⌜ Places (now col) p n1 × Places (now row) q n2 × (n1 * n2 ≤ length (now old))
+        × (n1 * n2 ≤ length (now x)) ⌝ }
     ensures { λ _. ⌜ MovedInto (isInverse task) (now (col .entry)) p n1 (now (row .entry)) q n2 (now (old .entry))
         (now (x .entry)) (now (x .exit)) ⌝ }
 {

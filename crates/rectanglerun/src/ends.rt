@@ -45,8 +45,8 @@ fn move_in_turn(
     x: &mut [i32],
 )
     requires { ⌜ Matched (now col) (now row) × Starts (now col) (now columns) × Starts (now row) (now rows)
-        × (t < count (now col) 1) × (movesInTurn (now col) (run .task) t ≡ true) × (sizeOf (now col) (now row) ≤ length (now old))
-        × (sizeOf (now col) (now row) ≤ length (now x)) ⌝ }
+        × (t < count (now col) 1) × (movesInTurn (now col) (run .task) t ≡ true)
+        × (sizeOf (now col) (now row) ≤ length (now old)) × (sizeOf (now col) (now row) ≤ length (now x)) ⌝ }
     ensures { λ _. ⌜ MovedInTurn (run .task) (now (col .entry)) (now (row .entry)) t (now (old .entry)) (now (x .entry))
         (now (x .exit)) ⌝ }
 {
@@ -69,8 +69,8 @@ pub fn load(
     b: &mut [i32; Block::CELLS],
 ) -> usize
     requires { ⌜ Matched (now col) (now row) × Starts (now col) (now columns) × Starts (now row) (now rows)
-        × (length (now x) ≡ inputsOf (run .task) (sizeOf (now col) (now row))) × (inside bound (length (now x)) (now x) ≡ true)
-        × (now b ≡ replicate mostCells (pos 0)) ⌝ }
+        × (length (now x) ≡ inputsOf (run .task) (sizeOf (now col) (now row)))
+        × (inside bound (length (now x)) (now x) ≡ true) × (now b ≡ replicate mostCells (pos 0)) ⌝ }
     ensures { λ r. ⌜ Loaded run (now (col .entry)) (now (row .entry)) (now (x .entry)) r (now (b .exit)) ⌝ }
 {
     let task = run.task;
@@ -111,7 +111,8 @@ pub fn store(
     y: &mut [i32],
 )
     requires { ⌜ Matched (now col) (now row) × Starts (now col) (now columns) × Starts (now row) (now rows)
-        × StopsAt (now col) (run .task) 0 t × (length (now b) ≡ mostCells) × (length (now y) ≡ sizeOf (now col) (now row)) ⌝ }
+        × StopsAt (now col) (run .task) 0 t × (length (now b) ≡ mostCells)
+        × (length (now y) ≡ sizeOf (now col) (now row)) ⌝ }
     ensures { λ _. ⌜ Stored run (now (col .entry)) (now (row .entry)) t (now (b .entry)) (now (y .entry)) (now (y .exit)) ⌝ }
 {
     let many = count_at(col, 1);

@@ -39,7 +39,8 @@ pub fn run_stage(
     j: usize,
     x: &mut [i32; Block::CELLS],
 ) -> Outcome
-    requires { ⌜ Paired (now col) (now row) n1 n2 i j × Bounded (limitOf (run .task)) (now x) × (length (now x) ≡ mostCells) ⌝ }
+    requires { ⌜ Paired (now col) (now row) n1 n2 i j × Bounded (limitOf (run .task)) (now x)
+        × (length (now x) ≡ mostCells) ⌝ }
     ensures { λ r. ⌜ Step (limitOf (run .task)) (n1 * n2)
         (takenBy run (n1 * n2) (jointStage n1 n2 (factorAt (now (col .entry)) n1 i) (factorAt (now (row .entry)) n2 j))
         (now (x .entry))) (r .ok) (now (x .exit)) × (length (now (x .exit)) ≡ mostCells) ⌝ }

@@ -89,7 +89,8 @@ fn apply_upper(
     to: usize,
     x: &mut [i32; Block::CELLS],
 ) -> Outcome
-    requires { ⌜ RunGiven (now row) f d (now v) k (now x) × (f .kind ≡ Upper) × (n ≡ f .order) × (from < to) × (to ≤ f .order) ⌝ }
+    requires { ⌜ RunGiven (now row) f d (now v) k (now x) × (f .kind ≡ Upper) × (n ≡ f .order) × (from < to)
+        × (to ≤ f .order) ⌝ }
     ensures { λ r. ⌜ RowDone bound (appliedIn rule (now (row .entry)) f d (now (v .entry)) k) (onward (λ u. k + u) from)
         (to - from) (now (x .entry)) (now (x .exit)) (r .ok) ⌝ }
 {
