@@ -1,11 +1,12 @@
-// Holds the answers of the library and of its twin to each other: on recipes of all orders and kinds, on blocks within the bound,
-// at it and beyond it, on sheets with a fault, on pairs that do not match, on wrong lengths; single calls and strips.
+// Holds the answers of the library and of its twin to each other: on recipes of all orders and kinds, by every rule and by
+// numbers that are none, on blocks within the bound, at it and beyond it, on sheets with a fault, on pairs that do not match, on
+// wrong lengths; single calls and strips.
 #include "calls.h"
 #include <stdio.h>
 #include <stdlib.h>
 #include <string.h>
 
-enum { MORE = 1, STRIP = 20, MOST = MOST_BLOCKS * ORDER * ORDER + MORE, PAINT = 0x5a, MOST_NUMBER = 12 };
+enum { MORE = 1, STRIP = 20, MOST = MOST_BLOCKS * ORDER * ORDER + MORE, PAINT = 0x5a, MOST_NUMBER = 16 };
 
 static size_t answers[MOST_NUMBER + 1];
 
@@ -18,6 +19,7 @@ static void agree(int way, struct recipe r, struct answer a, struct answer b, bo
 	printf("%s of order %d", way == INVERSE ? "inverse" : "forward", r.col->at[0]);
 	if (r.row)
 		printf(" by %d", r.row->at[0]);
+	printf(", rule %u", r.rule);
 	printf(": the library answers %u %u %zu, the twin %u %u %zu%s\n", a.number, a.side, (size_t)a.place, b.number, b.side,
 	       (size_t)b.place, equal ? "" : ", and what they write differs");
 	exit(1);
@@ -52,6 +54,12 @@ struct answer agree_on_strip(int way, struct recipe r, const int32_t *x, size_t 
 // ---- cases from the seed
 
 static bool once_in(int32_t many) { return between(1, many) == 1; }
+
+static uint32_t some_rule(void)
+{
+	static const uint32_t none[] = {RULES, 16, 256, 65536, INT32_MAX, UINT32_MAX};
+	return once_in(20) ? none[between(0, 5)] : (uint32_t)between(0, RULES - 1);
+}
 
 static int32_t some_order(void)
 {
@@ -125,12 +133,16 @@ static void agree_on_runs(struct recipe r, size_t size)
 // A recipe, then the same with a fault.
 static void agree_on_recipe(struct sheet *col, struct sheet *row)
 {
-	struct recipe r = {col, row};
+	struct recipe r = {some_rule(), col, row};
 	size_t size = size_of(r);
 	agree_on_runs(r, size);
 	spoil(row && once_in(2) ? row : col);
+	r.rule = some_rule();
 	agree_on_runs(r, size);
 }
+
+// The numbers by which a run may be refused.
+static bool is_of_runs(size_t number) { return number <= 12 || number == 16; }
 
 void agree_on_many(int cases)
 {
@@ -146,6 +158,8 @@ void agree_on_many(int cases)
 	}
 	printf("Answers, outputs and bytes of both are equal: %zu accepted, and refused, by number,\n", answers[0]);
 	for (size_t k = 1; k <= MOST_NUMBER; k++) {
+		if (!is_of_runs(k))
+			continue;
 		printf("%s%zu: %zu", k > 1 ? ", " : "", k, answers[k]);
 		if (!answers[k]) {
 			printf(": the cases leave that number out\n");

@@ -7,6 +7,7 @@ enum { LIBRARY, TWIN };
 enum { FORWARD, INVERSE };
 
 struct recipe {
+	uint32_t rule;
 	const struct sheet *col, *row; // no row sheet: a line
 };
 
@@ -22,8 +23,8 @@ static inline struct answer ask(int who, int way, struct recipe r, const int32_t
 	static block_call *const block[2][2] = {{bench_rectangle_forward, bench_rectangle_inverse},
 						{twin_rectangle_forward, twin_rectangle_inverse}};
 	if (!r.row)
-		return line[who][way](r.col->at, r.col->len, x, xn, y, yn);
-	return block[who][way](r.col->at, r.col->len, r.row->at, r.row->len, x, xn, y, yn);
+		return line[who][way](r.rule, r.col->at, r.col->len, x, xn, y, yn);
+	return block[who][way](r.rule, r.col->at, r.col->len, r.row->at, r.row->len, x, xn, y, yn);
 }
 
 static inline struct answer ask_strip(int who, int way, struct recipe r, const int32_t *x, size_t xn, int32_t *y, size_t yn,
@@ -34,8 +35,8 @@ static inline struct answer ask_strip(int who, int way, struct recipe r, const i
 	static block_strip *const block[2][2] = {{bench_rectangle_strip_forward, bench_rectangle_strip_inverse},
 						 {twin_rectangle_strip_forward, twin_rectangle_strip_inverse}};
 	if (!r.row)
-		return line[who][way](r.col->at, r.col->len, x, xn, y, yn, bytes, bn);
-	return block[who][way](r.col->at, r.col->len, r.row->at, r.row->len, x, xn, y, yn, bytes, bn);
+		return line[who][way](r.rule, r.col->at, r.col->len, x, xn, y, yn, bytes, bn);
+	return block[who][way](r.rule, r.col->at, r.col->len, r.row->at, r.row->len, x, xn, y, yn, bytes, bn);
 }
 
 // agree.c: both give one answer and write the same, or the program ends. The answer, and what the library wrote.

@@ -1,5 +1,5 @@
 // The line in the best plain C for the same answers: what the library's times are held to. The sheet is checked and decoded in
-// one pass, once for a call or a strip; stages work in place; orders 3, 4, 8 and 16 have code of their own.
+// one pass, once for a call or a strip; stages work in place; each rule has code of its own, and in it orders 3, 4, 8 and 16.
 #include "twin.h"
 
 // ---- a stage, in place: it answers whether a number is beyond the bound
@@ -19,45 +19,45 @@ INLINE uint32_t move(const int32_t *p, size_t n, bool back, int32_t *v)
 // takes 0.61 to 0.73 of the time (on Arm), for 12 KB more of code.
 
 // Row m looks at the numbers above it: forward from the bottom, while they are old; back from the top, once they are recovered.
-INLINE uint32_t lower(const int32_t *d, const int32_t *a, size_t n, int32_t *v)
+INLINE uint32_t lower(uint32_t rule, const int32_t *d, const int32_t *a, size_t n, int32_t *v)
 {
 	uint32_t bad = 0;
 	a += n * (n - 1) / 2;
 	for (size_t m = n; m-- > 0;) {
 		a -= m;
-		bad |= put(&v[m], (int64_t)d[m] * v[m] + R(sum_of(a, v, m)));
+		bad |= put(&v[m], (int64_t)d[m] * v[m] + R(rule, sum_of(a, v, m)));
 	}
 	return bad;
 }
 
-INLINE uint32_t lower_back(const int32_t *d, const int32_t *a, size_t n, int32_t *v)
+INLINE uint32_t lower_back(uint32_t rule, const int32_t *d, const int32_t *a, size_t n, int32_t *v)
 {
 	uint32_t bad = 0;
 	for (size_t m = 0; m < n; m++) {
-		bad |= put(&v[m], flip(d[m], v[m] - R(sum_of(a, v, m))));
+		bad |= put(&v[m], flip(d[m], v[m] - R(rule, sum_of(a, v, m))));
 		a += m;
 	}
 	return bad;
 }
 
 // Row m looks at the numbers below it.
-INLINE uint32_t upper(const int32_t *d, const int32_t *a, size_t n, int32_t *v)
+INLINE uint32_t upper(uint32_t rule, const int32_t *d, const int32_t *a, size_t n, int32_t *v)
 {
 	uint32_t bad = 0;
 	for (size_t m = 0; m < n; m++) {
-		bad |= put(&v[m], (int64_t)d[m] * v[m] + R(sum_of(a, v + m + 1, n - 1 - m)));
+		bad |= put(&v[m], (int64_t)d[m] * v[m] + R(rule, sum_of(a, v + m + 1, n - 1 - m)));
 		a += n - 1 - m;
 	}
 	return bad;
 }
 
-INLINE uint32_t upper_back(const int32_t *d, const int32_t *a, size_t n, int32_t *v)
+INLINE uint32_t upper_back(uint32_t rule, const int32_t *d, const int32_t *a, size_t n, int32_t *v)
 {
 	uint32_t bad = 0;
 	a += n * (n - 1) / 2;
 	for (size_t m = n; m-- > 0;) {
 		a -= n - 1 - m;
-		bad |= put(&v[m], flip(d[m], v[m] - R(sum_of(a, v + m + 1, n - 1 - m))));
+		bad |= put(&v[m], flip(d[m], v[m] - R(rule, sum_of(a, v + m + 1, n - 1 - m))));
 	}
 	return bad;
 }
@@ -101,33 +101,34 @@ INLINE void sign_all(const int32_t *d, size_t n, int32_t *v)
 		v[m] *= d[m];
 }
 
-INLINE uint32_t single(const int32_t *d, const int32_t *a, size_t n, size_t r, int32_t *v)
+INLINE uint32_t single(uint32_t rule, const int32_t *d, const int32_t *a, size_t n, size_t r, int32_t *v)
 {
-	int64_t nudge = R(row_sum(a, n, r, v));
+	int64_t nudge = R(rule, row_sum(a, n, r, v));
 	sign_all(d, n, v);
 	return put_at(n, r, v, number_at(n, r, v) + nudge);
 }
 
-INLINE uint32_t single_back(const int32_t *d, const int32_t *a, size_t n, size_t r, int32_t *v)
+INLINE uint32_t single_back(uint32_t rule, const int32_t *d, const int32_t *a, size_t n, size_t r, int32_t *v)
 {
 	sign_all(d, n, v);
-	return put_at(n, r, v, number_at(n, r, v) - flip(d[r], R(row_sum(a, n, r, v))));
+	return put_at(n, r, v, number_at(n, r, v) - flip(d[r], R(rule, row_sum(a, n, r, v))));
 }
 
-INLINE uint32_t stage(const struct step *t, size_t n, bool back, int32_t *v)
+INLINE uint32_t stage(uint32_t rule, const struct step *t, size_t n, bool back, int32_t *v)
 {
 	const int32_t *d = t->signs, *a = t->entries;
 	switch (t->kind) {
 	case 1: return move(d, n, back, v);
-	case 2: return back ? lower_back(d, a, n, v) : lower(d, a, n, v);
-	case 3: return back ? upper_back(d, a, n, v) : upper(d, a, n, v);
-	default: return back ? single_back(d, a, n, t->row, v) : single(d, a, n, t->row, v);
+	case 2: return back ? lower_back(rule, d, a, n, v) : lower(rule, d, a, n, v);
+	case 3: return back ? upper_back(rule, d, a, n, v) : upper(rule, d, a, n, v);
+	default: return back ? single_back(rule, d, a, n, t->row, v) : single(rule, d, a, n, t->row, v);
 	}
 }
 
 // ---- a run
 
-INLINE struct answer run_block(const struct step *t, size_t many, size_t n, bool back, const int32_t *x, int32_t *y)
+INLINE struct answer run_block(uint32_t rule, const struct step *t, size_t many, size_t n, bool back, const int32_t *x,
+			       int32_t *y)
 {
 	if (!are_within(x, n, SAMPLE))
 		return refused(11, 0, 0);
@@ -135,7 +136,7 @@ INLINE struct answer run_block(const struct step *t, size_t many, size_t n, bool
 	for (size_t k = 0; k < n; k++)
 		v[k] = x[k];
 	for (size_t f = 0; f < many; f++)
-		if (stage(&t[back ? many - 1 - f : f], n, back, v))
+		if (stage(rule, &t[back ? many - 1 - f : f], n, back, v))
 			return refused(11, 0, f + 1);
 	for (size_t k = 0; k < n; k++)
 		y[k] = v[k];
@@ -154,7 +155,7 @@ struct call {
 	size_t bn;
 };
 
-INLINE struct answer run(const struct call *c, size_t n, bool back, bool strip)
+INLINE struct answer run(const struct call *c, uint32_t rule, size_t n, bool back, bool strip)
 {
 	struct step t[COUNT];
 	if (!n || !decode(c->s, c->sn, n, t))
@@ -164,42 +165,52 @@ INLINE struct answer run(const struct call *c, size_t n, bool back, bool strip)
 	if (a.number)
 		return a;
 	if (!strip)
-		return run_block(t, many, n, back, c->x, c->y);
+		return run_block(rule, t, many, n, back, c->x, c->y);
 	for (size_t k = 0; k < c->bn; k++)
-		c->bytes[k] = (uint8_t)run_block(t, many, n, back, c->x + k * n, c->y + k * n).number;
+		c->bytes[k] = (uint8_t)run_block(rule, t, many, n, back, c->x + k * n, c->y + k * n).number;
 	return a;
 }
 
-INLINE struct answer run_by_order(struct call c, bool back, bool strip)
+INLINE struct answer run_by_order(const struct call *c, uint32_t rule, bool back, bool strip)
 {
-	size_t n = order_of(c.s, c.sn);
+	size_t n = order_of(c->s, c->sn);
 	switch (n) {
-	case 3: return run(&c, 3, back, strip);
-	case 4: return run(&c, 4, back, strip);
-	case 8: return run(&c, 8, back, strip);
-	case 16: return run(&c, 16, back, strip);
-	default: return run(&c, n, back, strip);
+	case 3: return run(c, rule, 3, back, strip);
+	case 4: return run(c, rule, 4, back, strip);
+	case 8: return run(c, rule, 8, back, strip);
+	case 16: return run(c, rule, 16, back, strip);
+	default: return run(c, rule, n, back, strip);
 	}
 }
 
-struct answer twin_forward(const int32_t *s, size_t sn, const int32_t *x, size_t xn, int32_t *y, size_t yn)
+INLINE struct answer run_by_rule(uint32_t rule, struct call c, bool back, bool strip)
 {
-	return run_by_order((struct call){s, sn, x, xn, y, yn, NULL, 0}, false, false);
+	switch (rule) {
+	case 0: return run_by_order(&c, 0, back, strip);
+	case 1: return run_by_order(&c, 1, back, strip);
+	case 2: return run_by_order(&c, 2, back, strip);
+	default: return refused(16, 0, 0);
+	}
 }
 
-struct answer twin_inverse(const int32_t *s, size_t sn, const int32_t *x, size_t xn, int32_t *y, size_t yn)
+struct answer twin_forward(uint32_t rule, const int32_t *s, size_t sn, const int32_t *x, size_t xn, int32_t *y, size_t yn)
 {
-	return run_by_order((struct call){s, sn, x, xn, y, yn, NULL, 0}, true, false);
+	return run_by_rule(rule, (struct call){s, sn, x, xn, y, yn, NULL, 0}, false, false);
 }
 
-struct answer twin_strip_forward(const int32_t *s, size_t sn, const int32_t *x, size_t xn, int32_t *y, size_t yn, uint8_t *bytes,
-				 size_t bn)
+struct answer twin_inverse(uint32_t rule, const int32_t *s, size_t sn, const int32_t *x, size_t xn, int32_t *y, size_t yn)
 {
-	return run_by_order((struct call){s, sn, x, xn, y, yn, bytes, bn}, false, true);
+	return run_by_rule(rule, (struct call){s, sn, x, xn, y, yn, NULL, 0}, true, false);
 }
 
-struct answer twin_strip_inverse(const int32_t *s, size_t sn, const int32_t *x, size_t xn, int32_t *y, size_t yn, uint8_t *bytes,
-				 size_t bn)
+struct answer twin_strip_forward(uint32_t rule, const int32_t *s, size_t sn, const int32_t *x, size_t xn, int32_t *y, size_t yn,
+				 uint8_t *bytes, size_t bn)
 {
-	return run_by_order((struct call){s, sn, x, xn, y, yn, bytes, bn}, true, true);
+	return run_by_rule(rule, (struct call){s, sn, x, xn, y, yn, bytes, bn}, false, true);
+}
+
+struct answer twin_strip_inverse(uint32_t rule, const int32_t *s, size_t sn, const int32_t *x, size_t xn, int32_t *y, size_t yn,
+				 uint8_t *bytes, size_t bn)
+{
+	return run_by_rule(rule, (struct call){s, sn, x, xn, y, yn, bytes, bn}, true, true);
 }

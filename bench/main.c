@@ -145,22 +145,57 @@ static void time_task(struct task t, double back_aim)
 	print_rows(&t, true, back_aim);
 }
 
+// ---- the rows
+
+struct row {
+	const char *name;
+	int32_t n1, n2;    // n2 is 0 for a line
+	const char *kinds; // NULL: the built-in recipe
+	int32_t size;	   // of the entries
+	double aim, back_aim;
+	const char *by_rules; // a name for the rows by rules 1 and 2, which have no aim; NULL: there are none
+};
+
+static const struct row table[] = {
+	{"line of 4, built-in", 4, 0, NULL, 0, 1.35, 0, "line of 4"},
+	{"line of 16, 8 factors", 16, 0, "23412341", 2048, 1.25, 0, "line of 16"},
+	{"line of 4, 32 factors", 4, 0, "12341234123412341234123412341234", 1024, 1.10, 1.40, NULL},
+	{"line of 3, 4 single rows", 3, 0, "44441", 2048, 0, 0, NULL},
+	{"4 by 4, built-in", 4, 4, NULL, 0, 1.30, 0, "4 by 4"},
+	{"8 by 8, 5 factors", 8, 8, "12342", 1024, 1.30, 0, "8 by 8"},
+	{"16 by 16, 5 factors", 16, 16, "12342", 1024, 1.30, 0, "16 by 16"},
+	{"16 by 4, 5 factors", 16, 4, "12342", 1024, 1.30, 0, NULL},
+	{"16 by 16, 5 single rows", 16, 16, "44444", 1024, 1.30, 0, "16 by 16 single rows"},
+	{"16 by 16, 5 lowers", 16, 16, "22222", 256, 1.30, 0, NULL},
+};
+enum { ROWS = sizeof table / sizeof *table };
+
+// The sheets of a row, the same for every rule.
+static struct recipe recipe_of(const struct row *w)
+{
+	static struct sheet sheets[ROWS][2];
+	struct sheet *s = sheets[w - table];
+	for (int k = 0; k < (w->n2 ? 2 : 1) && !s[k].len; k++)
+		s[k] = w->kinds ? made(k ? w->n2 : w->n1, w->kinds, w->size) : built_in();
+	return (struct recipe){0, &s[0], w->n2 ? &s[1] : NULL};
+}
+
 // A round of short lines is soon over, so there are more of them.
-static void time_line(const char *name, struct sheet s, double aim, double back_aim)
+static int rounds_of(const struct row *w) { return w->n1 <= 4 && !w->n2 ? SHORT * rounds : rounds; }
+
+static void time_by_rule_0(const struct row *w)
 {
-	int many = s.at[0] <= 4 ? SHORT * rounds : rounds;
-	time_task((struct task){name, {&s, NULL}, many, aim}, back_aim);
+	time_task((struct task){w->name, recipe_of(w), rounds_of(w), w->aim}, w->back_aim);
 }
 
-static void time_pair(const char *name, struct sheet col, struct sheet row)
+static void time_by_others(const struct row *w)
 {
-	time_task((struct task){name, {&col, &row}, rounds, 1.30}, 0);
-}
-
-static void time_rectangle(const char *name, int32_t n1, int32_t n2, const char *kinds, int32_t size)
-{
-	struct sheet col = made(n1, kinds, size), row = made(n2, kinds, size);
-	time_pair(name, col, row);
+	struct recipe r = recipe_of(w);
+	for (r.rule = 1; r.rule < RULES; r.rule++) {
+		char name[64];
+		snprintf(name, sizeof name, "%s, rule %u", w->by_rules, r.rule);
+		time_task((struct task){name, r, rounds_of(w), 0}, 0);
+	}
 }
 
 int main(int argc, char **argv)
@@ -176,16 +211,11 @@ int main(int argc, char **argv)
 	       "block: the lower quartile of %d rounds (lines of 3 and 4: %d), each of 1,000 calls or a strip of 1,000 blocks.\n\n",
 	       rounds, SHORT * rounds);
 	printf("%-28s %-6s  %-7s %10s %10s %7s %6s\n", "recipe", "call", "way", "library", "C", "ratio", "aim");
-	time_line("line of 4, built-in", built_in(), 1.35, 0);
-	time_line("line of 16, 8 factors", made(16, "23412341", 2048), 1.25, 0);
-	time_line("line of 4, 32 factors", made(4, "12341234123412341234123412341234", 1024), 1.10, 1.40);
-	time_line("line of 3, 4 single rows", made(3, "44441", 2048), 0, 0);
-	time_pair("4 by 4, built-in", built_in(), built_in());
-	time_rectangle("8 by 8, 5 factors", 8, 8, "12342", 1024);
-	time_rectangle("16 by 16, 5 factors", 16, 16, "12342", 1024);
-	time_rectangle("16 by 4, 5 factors", 16, 4, "12342", 1024);
-	time_rectangle("16 by 16, 5 single rows", 16, 16, "44444", 1024);
-	time_rectangle("16 by 16, 5 lowers", 16, 16, "22222", 256);
+	for (size_t k = 0; k < ROWS; k++)
+		time_by_rule_0(&table[k]);
+	for (size_t k = 0; k < ROWS; k++)
+		if (table[k].by_rules)
+			time_by_others(&table[k]);
 	if (aims)
 		printf("\n%d of %d aims missed\n", missed, aims);
 	return 0;

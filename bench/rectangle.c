@@ -1,6 +1,6 @@
 // The rectangle in the best plain C for the same answers: what the library's times are held to. The sheets are checked and
-// decoded in one pass, once for a call or a strip; stages work in place; 4 by 4, 8 by 8, 16 by 16 and 16 by 4 have code of their
-// own. What it makes of the rule:
+// decoded in one pass, once for a call or a strip; stages work in place; each rule has code of its own, and in it 4 by 4, 8 by 8,
+// 16 by 16 and 16 by 4. What it makes of a stage:
 // - a stage is R2 of A X B^T with the own terms in it, first A, then B: n1 + n2 products for an element at most, and not n1 n2;
 // - triangles have half of these;
 // - single rows r and q: only row r and column q have sums, so there are two products for an element; else only signs change;
@@ -59,7 +59,7 @@ INLINE int64_t wide_sum_down(const int32_t *b, const int64_t *v, size_t n)
 
 // Row i looks at the rows above it: forward from the bottom, while they are still old. The row itself is in its sums before it is
 // written.
-INLINE uint32_t lower(const struct stage *t, size_t n1, size_t n2, int32_t *x)
+INLINE uint32_t lower(uint32_t rule, const struct stage *t, size_t n1, size_t n2, int32_t *x)
 {
 	const int32_t *a = t->a + n1 * (n1 - 1) / 2;
 	uint32_t bad = 0;
@@ -70,14 +70,16 @@ INLINE uint32_t lower(const struct stage *t, size_t n1, size_t n2, int32_t *x)
 		add_rows(v, a, i, x, n2);
 		const int32_t *b = t->b;
 		UNROLL for (size_t j = 0; j < n2; j++) {
-			bad |= put(&x[i * n2 + j], R2(wide_sum(b, v, j) + 4096 * flip(t->across[j], v[j])));
+			int32_t *own = &x[i * n2 + j];
+			int64_t sum = wide_sum(b, v, j) + 4096 * flip(t->across[j], v[j]);
+			bad |= put(own, R2_with(rule, sum, *own));
 			b += j;
 		}
 	}
 	return bad;
 }
 
-INLINE uint32_t upper(const struct stage *t, size_t n1, size_t n2, int32_t *x)
+INLINE uint32_t upper(uint32_t rule, const struct stage *t, size_t n1, size_t n2, int32_t *x)
 {
 	const int32_t *a = t->a;
 	uint32_t bad = 0;
@@ -88,7 +90,9 @@ INLINE uint32_t upper(const struct stage *t, size_t n1, size_t n2, int32_t *x)
 		a += n1 - 1 - i;
 		const int32_t *b = t->b;
 		UNROLL for (size_t j = 0; j < n2; j++) {
-			bad |= put(&x[i * n2 + j], R2(wide_sum(b, v + j + 1, n2 - 1 - j) + 4096 * flip(t->across[j], v[j])));
+			int32_t *own = &x[i * n2 + j];
+			int64_t sum = wide_sum(b, v + j + 1, n2 - 1 - j) + 4096 * flip(t->across[j], v[j]);
+			bad |= put(own, R2_with(rule, sum, *own));
 			b += n2 - 1 - j;
 		}
 	}
@@ -97,14 +101,14 @@ INLINE uint32_t upper(const struct stage *t, size_t n1, size_t n2, int32_t *x)
 
 // Back: the sums are over recovered rows, and grow by each number that is recovered in the row itself. One beyond the bound ends
 // the stage at once, since sums over it need not fit in 64 bits.
-INLINE uint32_t recover(const struct stage *t, size_t i, size_t j, int64_t sum, int32_t *x, int64_t *v)
+INLINE uint32_t recover(uint32_t rule, const struct stage *t, size_t i, size_t j, int64_t sum, int32_t *x, int64_t *v)
 {
-	int64_t own = flip(t->across[j], *x - R2(sum + 4096 * flip(t->across[j], *v)));
+	int64_t own = flip(t->across[j], *x - R2(rule, sum + 4096 * flip(t->across[j], *v)));
 	*v += 4096 * own;
 	return put(x, flip(t->signs[i], own));
 }
 
-INLINE uint32_t lower_back(const struct stage *t, size_t n1, size_t n2, int32_t *x)
+INLINE uint32_t lower_back(uint32_t rule, const struct stage *t, size_t n1, size_t n2, int32_t *x)
 {
 	const int32_t *a = t->a;
 	for (size_t i = 0; i < n1; i++) {
@@ -113,7 +117,7 @@ INLINE uint32_t lower_back(const struct stage *t, size_t n1, size_t n2, int32_t 
 		a += i;
 		const int32_t *b = t->b;
 		UNROLL for (size_t j = 0; j < n2; j++) {
-			if (recover(t, i, j, wide_sum(b, v, j), &x[i * n2 + j], &v[j]))
+			if (recover(rule, t, i, j, wide_sum(b, v, j), &x[i * n2 + j], &v[j]))
 				return 1;
 			b += j;
 		}
@@ -121,7 +125,7 @@ INLINE uint32_t lower_back(const struct stage *t, size_t n1, size_t n2, int32_t 
 	return 0;
 }
 
-INLINE uint32_t upper_back(const struct stage *t, size_t n1, size_t n2, int32_t *x)
+INLINE uint32_t upper_back(uint32_t rule, const struct stage *t, size_t n1, size_t n2, int32_t *x)
 {
 	const int32_t *a = t->a + n1 * (n1 - 1) / 2;
 	for (size_t i = n1; i-- > 0;) {
@@ -131,7 +135,7 @@ INLINE uint32_t upper_back(const struct stage *t, size_t n1, size_t n2, int32_t 
 		const int32_t *b = t->b + n2 * (n2 - 1) / 2;
 		UNROLL for (size_t j = n2; j-- > 0;) {
 			b -= n2 - 1 - j;
-			if (recover(t, i, j, wide_sum_down(b, v + j + 1, n2 - 1 - j), &x[i * n2 + j], &v[j]))
+			if (recover(rule, t, i, j, wide_sum_down(b, v + j + 1, n2 - 1 - j), &x[i * n2 + j], &v[j]))
 				return 1;
 		}
 	}
@@ -166,7 +170,7 @@ INLINE void sign_row(int32_t *x, const int32_t *m, int32_t sign, size_t n)
 }
 
 // Column q of a row that is not r has a sum over its row alone. The row's numbers enter the sums of row r as they were.
-INLINE uint32_t single(const struct stage *t, size_t n1, size_t n2, int32_t *x)
+INLINE uint32_t single(uint32_t rule, const struct stage *t, size_t n1, size_t n2, int32_t *x)
 {
 	size_t r = t->r, q = t->q;
 	uint32_t bad = 0;
@@ -180,13 +184,13 @@ INLINE uint32_t single(const struct stage *t, size_t n1, size_t n2, int32_t *x)
 			continue;
 		int32_t *u = x + i * n2;
 		add_row(v, t->a[i - (i > r)], u, n2);
-		int64_t z = R(flip(t->signs[i], sum_of(w, u, n2)));
+		int64_t z = R_with(rule, flip(t->signs[i], sum_of(w, u, n2)), u[q]);
 		sign_row(u, m, t->signs[i], n2);
 		bad |= put(&u[q], z);
 	}
-	int64_t corner = R2(wide_sum(w, v, n2));
+	int64_t corner = R2_with(rule, wide_sum(w, v, n2), own[q]);
 	for (size_t j = 0; j < n2; j++) {
-		int64_t z = R(flip(m[j], v[j]));
+		int64_t z = R_with(rule, flip(m[j], v[j]), own[j]);
 		bad |= j == q ? 0 : is_beyond(z);
 		own[j] = (int32_t)z;
 	}
@@ -195,7 +199,7 @@ INLINE uint32_t single(const struct stage *t, size_t n1, size_t n2, int32_t *x)
 
 // Back: the rows that are not r, then row r over them, and last the corner over all. Here w has 0 in place q, so that whatever
 // stands there is not in the sums.
-INLINE uint32_t single_back(const struct stage *t, size_t n1, size_t n2, int32_t *x)
+INLINE uint32_t single_back(uint32_t rule, const struct stage *t, size_t n1, size_t n2, int32_t *x)
 {
 	size_t r = t->r, q = t->q;
 	uint32_t bad = 0;
@@ -208,26 +212,26 @@ INLINE uint32_t single_back(const struct stage *t, size_t n1, size_t n2, int32_t
 			continue;
 		int32_t *u = x + i * n2, y = u[q], d = t->signs[i];
 		sign_row(u, m, d, n2);
-		bad |= put(&u[q], flip(d ^ m[q], y - R(flip(d, sum_of(w, u, n2)))));
+		bad |= put(&u[q], flip(d ^ m[q], y - R(rule, flip(d, sum_of(w, u, n2)))));
 		add_row(v, t->a[i - (i > r)], u, n2);
 	}
 	for (size_t j = 0; j < n2; j++) {
-		int64_t z = flip(t->signs[r] ^ m[j], own[j] - R(flip(m[j], v[j])));
+		int64_t z = flip(t->signs[r] ^ m[j], own[j] - R(rule, flip(m[j], v[j])));
 		bad |= j == q ? 0 : is_beyond(z);
 		own[j] = (int32_t)z;
 	}
 	if (bad)
 		return bad;
 	int64_t sum = 4096 * (flip(m[q], v[q]) + flip(t->signs[r], sum_of(w, own, n2))) + wide_sum(w, v, n2);
-	return put(&own[q], flip(t->signs[r] ^ m[q], corner - R2(sum)));
+	return put(&own[q], flip(t->signs[r] ^ m[q], corner - R2(rule, sum)));
 }
 
-INLINE uint32_t weigh(const struct stage *t, size_t n1, size_t n2, bool back, int32_t *x)
+INLINE uint32_t weigh(uint32_t rule, const struct stage *t, size_t n1, size_t n2, bool back, int32_t *x)
 {
 	switch (t->kind) {
-	case 2: return back ? lower_back(t, n1, n2, x) : lower(t, n1, n2, x);
-	case 3: return back ? upper_back(t, n1, n2, x) : upper(t, n1, n2, x);
-	default: return back ? single_back(t, n1, n2, x) : single(t, n1, n2, x);
+	case 2: return back ? lower_back(rule, t, n1, n2, x) : lower(rule, t, n1, n2, x);
+	case 3: return back ? upper_back(rule, t, n1, n2, x) : upper(rule, t, n1, n2, x);
+	default: return back ? single_back(rule, t, n1, n2, x) : single(rule, t, n1, n2, x);
 	}
 }
 
@@ -249,7 +253,8 @@ INLINE void move(const struct stage *t, size_t n1, size_t n2, bool back, const i
 // ---- a run
 
 // No number is beyond the bound after a permutation, so the last one may write to y.
-INLINE struct answer run_block(const struct stage *t, size_t many, size_t n1, size_t n2, bool back, const int32_t *x, int32_t *y)
+INLINE struct answer run_block(uint32_t rule, const struct stage *t, size_t many, size_t n1, size_t n2, bool back,
+			       const int32_t *x, int32_t *y)
 {
 	size_t size = n1 * n2;
 	if (!are_within(x, size, SAMPLE))
@@ -265,7 +270,7 @@ INLINE struct answer run_block(const struct stage *t, size_t many, size_t n1, si
 		}
 		if (!v)
 			v = memcpy(room[0], x, size * sizeof *x);
-		if (weigh(s, n1, n2, back, v))
+		if (weigh(rule, s, n1, n2, back, v))
 			return refused(11, 0, f + 1);
 	}
 	if (v != y)
@@ -315,55 +320,66 @@ struct call {
 	size_t bn;
 };
 
-INLINE struct answer run(const struct call *c, const struct stage *t, size_t n1, size_t n2, bool back, bool strip)
+INLINE struct answer run_blocks(const struct call *c, uint32_t rule, const struct stage *t, size_t n1, size_t n2, bool back,
+				bool strip)
 {
 	size_t many = (size_t)c->col[1], size = n1 * n2;
 	if (!strip)
-		return run_block(t, many, n1, n2, back, c->x, c->y);
+		return run_block(rule, t, many, n1, n2, back, c->x, c->y);
 	for (size_t k = 0; k < c->bn; k++)
-		c->bytes[k] = (uint8_t)run_block(t, many, n1, n2, back, c->x + k * size, c->y + k * size).number;
+		c->bytes[k] = (uint8_t)run_block(rule, t, many, n1, n2, back, c->x + k * size, c->y + k * size).number;
 	return refused(0, 0, 0);
 }
 
-INLINE struct answer run_by_order(struct call c, bool back, bool strip)
+INLINE struct answer run_by_order(const struct call *c, uint32_t rule, bool back, bool strip)
 {
 	struct stage t[COUNT];
-	struct answer a = decode_pair(c.col, c.cn, c.row, c.rn, t);
+	struct answer a = decode_pair(c->col, c->cn, c->row, c->rn, t);
 	if (a.number)
 		return a;
-	size_t n1 = (size_t)c.col[0], n2 = (size_t)c.row[0];
-	a = lengths(n1 * n2, strip, c.xn, c.yn, c.bn);
+	size_t n1 = (size_t)c->col[0], n2 = (size_t)c->row[0];
+	a = lengths(n1 * n2, strip, c->xn, c->yn, c->bn);
 	if (a.number)
 		return a;
 	switch (n1 * 100 + n2) {
-	case 404: return run(&c, t, 4, 4, back, strip);
-	case 808: return run(&c, t, 8, 8, back, strip);
-	case 1616: return run(&c, t, 16, 16, back, strip);
-	case 1604: return run(&c, t, 16, 4, back, strip);
-	default: return run(&c, t, n1, n2, back, strip);
+	case 404: return run_blocks(c, rule, t, 4, 4, back, strip);
+	case 808: return run_blocks(c, rule, t, 8, 8, back, strip);
+	case 1616: return run_blocks(c, rule, t, 16, 16, back, strip);
+	case 1604: return run_blocks(c, rule, t, 16, 4, back, strip);
+	default: return run_blocks(c, rule, t, n1, n2, back, strip);
 	}
 }
 
-struct answer twin_rectangle_forward(const int32_t *col, size_t cn, const int32_t *row, size_t rn, const int32_t *x, size_t xn,
-				     int32_t *y, size_t yn)
+INLINE struct answer run_by_rule(uint32_t rule, struct call c, bool back, bool strip)
 {
-	return run_by_order((struct call){col, cn, row, rn, x, xn, y, yn, NULL, 0}, false, false);
+	switch (rule) {
+	case 0: return run_by_order(&c, 0, back, strip);
+	case 1: return run_by_order(&c, 1, back, strip);
+	case 2: return run_by_order(&c, 2, back, strip);
+	default: return refused(16, 0, 0);
+	}
 }
 
-struct answer twin_rectangle_inverse(const int32_t *col, size_t cn, const int32_t *row, size_t rn, const int32_t *x, size_t xn,
-				     int32_t *y, size_t yn)
+struct answer twin_rectangle_forward(uint32_t rule, const int32_t *col, size_t cn, const int32_t *row, size_t rn,
+				     const int32_t *x, size_t xn, int32_t *y, size_t yn)
 {
-	return run_by_order((struct call){col, cn, row, rn, x, xn, y, yn, NULL, 0}, true, false);
+	return run_by_rule(rule, (struct call){col, cn, row, rn, x, xn, y, yn, NULL, 0}, false, false);
 }
 
-struct answer twin_rectangle_strip_forward(const int32_t *col, size_t cn, const int32_t *row, size_t rn, const int32_t *x,
-					   size_t xn, int32_t *y, size_t yn, uint8_t *bytes, size_t bn)
+struct answer twin_rectangle_inverse(uint32_t rule, const int32_t *col, size_t cn, const int32_t *row, size_t rn,
+				     const int32_t *x, size_t xn, int32_t *y, size_t yn)
 {
-	return run_by_order((struct call){col, cn, row, rn, x, xn, y, yn, bytes, bn}, false, true);
+	return run_by_rule(rule, (struct call){col, cn, row, rn, x, xn, y, yn, NULL, 0}, true, false);
 }
 
-struct answer twin_rectangle_strip_inverse(const int32_t *col, size_t cn, const int32_t *row, size_t rn, const int32_t *x,
-					   size_t xn, int32_t *y, size_t yn, uint8_t *bytes, size_t bn)
+struct answer twin_rectangle_strip_forward(uint32_t rule, const int32_t *col, size_t cn, const int32_t *row, size_t rn,
+					   const int32_t *x, size_t xn, int32_t *y, size_t yn, uint8_t *bytes, size_t bn)
 {
-	return run_by_order((struct call){col, cn, row, rn, x, xn, y, yn, bytes, bn}, true, true);
+	return run_by_rule(rule, (struct call){col, cn, row, rn, x, xn, y, yn, bytes, bn}, false, true);
+}
+
+struct answer twin_rectangle_strip_inverse(uint32_t rule, const int32_t *col, size_t cn, const int32_t *row, size_t rn,
+					   const int32_t *x, size_t xn, int32_t *y, size_t yn, uint8_t *bytes, size_t bn)
+{
+	return run_by_rule(rule, (struct call){col, cn, row, rn, x, xn, y, yn, bytes, bn}, true, true);
 }

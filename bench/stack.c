@@ -7,10 +7,18 @@
 
 // ---- a call on a painted stack
 
-// Two words, as Rattle passes it. No call takes more than five.
+// Two words, as Rattle passes it.
 struct slice {
 	const void *at;
 	size_t len;
+};
+
+// What a call is given, word by word: a rule, where it takes one, and at most five slices. A call without a rule begins at the
+// slices, so there is a word after them.
+struct words {
+	uint64_t rule;
+	struct slice slices[5];
+	uint64_t none;
 };
 
 typedef void code(void);
@@ -19,18 +27,20 @@ struct result {
 	uint64_t first, second; // an answer's number and side, and its place; or a length
 };
 
-enum { DEEPEST = 1 << 20, PUSHED = 4 * 8 };
+enum { DEEPEST = 1 << 20, PUSHED = 6 * 8 };
 static _Alignas(16) uint8_t stack[DEEPEST];
 static uint8_t *const top = stack + DEEPEST;
 
-// Six words go in registers and four on the stack, as C passes them. A call with fewer does not look at the others. Nothing
-// but the four words is pushed before the call, so all that is written below them is the call's.
-static struct result call_at_top(code *f, const struct slice a[5])
+// Six words go in registers and five on the stack, as C passes them, above them a word that makes the stack a multiple of 16. A
+// call with fewer does not look at the others. Nothing but these is pushed before the call, so all that is written below them is
+// the call's.
+static struct result call_at_top(code *f, const void *words)
 {
 	struct result r;
-	const void *words = a;
 	__asm__ volatile("movq %%rsp, %%rbx\n\t"
 			 "movq %[top], %%rsp\n\t"
+			 "subq $8, %%rsp\n\t"
+			 "pushq 80(%%rax)\n\t"
 			 "pushq 72(%%rax)\n\t"
 			 "pushq 64(%%rax)\n\t"
 			 "pushq 56(%%rax)\n\t"
@@ -58,14 +68,14 @@ static void deepen(size_t *most, size_t depth)
 
 // From the stack pointer at the call instruction down to the lowest byte that differs from the paint. A written byte that is
 // equal to one paint differs from the other. Only the upper part is painted, `reach` bytes, of which a call may use half.
-static size_t depth_of(code *f, const struct slice a[5], size_t reach, struct result *r)
+static size_t depth_of(code *f, const void *words, size_t reach, struct result *r)
 {
 	static const uint8_t paints[2] = {0xa5, 0x5a};
 	size_t deepest = 0;
 	for (int k = 0; k < 2; k++) {
 		uint8_t *low = top - reach;
 		memset(low, paints[k], reach);
-		*r = call_at_top(f, a);
+		*r = call_at_top(f, words);
 		while (*low == paints[k])
 			low++;
 		deepen(&deepest, (size_t)(top - PUSHED - low));
@@ -81,7 +91,7 @@ static size_t depth_of(code *f, const struct slice a[5], size_t reach, struct re
 
 // Numbers of answers as bits: 0 to 9, with 12 for a pair, and the others.
 enum { SHEET = 0x3ff, PAIR = SHEET | 1 << 12, LENGTH = 1 << 10, BOUND = 1 << 11, ALLOW = 1 << 13, SPELT = 1 << 14,
-	ROOM = 1 << 15 };
+	ROOM = 1 << 15, RULE = 1 << 16 };
 
 struct call {
 	const char *name;
@@ -97,9 +107,10 @@ enum {
 	WRITE,
 	BUILT_IN,
 	FIRST_PRINTING,
-	LINE,		  // forward, inverse, allowance, strip forward, strip inverse
-	BLOCK = LINE + 5, // the same of a rectangle
-	TEXT = BLOCK + 5,
+	LINE,		      // forward, inverse, allowance, strip forward, strip inverse
+	BLOCK = LINE + 5,     // the same of a rectangle
+	BY_RULES = BLOCK + 5, // by rule 1: forward and inverse of a line, of a rectangle; then by rule 2
+	TEXT = BY_RULES + 8,
 	CALLS
 };
 enum { FORWARD, INVERSE, ALLOWANCE, STRIP_FORWARD, STRIP_INVERSE };
@@ -113,20 +124,30 @@ static const struct call calls[CALLS] = {
 	[WRITE] = {"recipe::write", SHEET | ROOM, CODE(bench_write), NULL},
 	[BUILT_IN] = {"recipe::built_in", 1 | ROOM, CODE(bench_built_in), NULL},
 	[FIRST_PRINTING] = {"recipe::first_printing", 1 | ROOM, CODE(bench_first_printing), NULL},
-	[LINE + FORWARD] = {"line::forward", SHEET | LENGTH | BOUND, CODE(bench_forward), CODE(twin_forward)},
-	[LINE + INVERSE] = {"line::inverse", SHEET | LENGTH | BOUND, CODE(bench_inverse), CODE(twin_inverse)},
-	[LINE + ALLOWANCE] = {"line::allowance", SHEET | LENGTH | ALLOW, CODE(bench_allowance), NULL},
-	[LINE + STRIP_FORWARD] = {"strip::line_forward", SHEET | LENGTH, CODE(bench_strip_forward), CODE(twin_strip_forward)},
-	[LINE + STRIP_INVERSE] = {"strip::line_inverse", SHEET | LENGTH, CODE(bench_strip_inverse), CODE(twin_strip_inverse)},
-	[BLOCK + FORWARD] = {"rectangle::forward", PAIR | LENGTH | BOUND, CODE(bench_rectangle_forward),
+	[LINE + FORWARD] = {"line::forward", SHEET | LENGTH | BOUND | RULE, CODE(bench_forward), CODE(twin_forward)},
+	[LINE + INVERSE] = {"line::inverse", SHEET | LENGTH | BOUND | RULE, CODE(bench_inverse), CODE(twin_inverse)},
+	[LINE + ALLOWANCE] = {"line::allowance", SHEET | LENGTH | ALLOW | RULE, CODE(bench_allowance), NULL},
+	[LINE + STRIP_FORWARD] = {"strip::line_forward", SHEET | LENGTH | RULE, CODE(bench_strip_forward),
+		CODE(twin_strip_forward)},
+	[LINE + STRIP_INVERSE] = {"strip::line_inverse", SHEET | LENGTH | RULE, CODE(bench_strip_inverse),
+		CODE(twin_strip_inverse)},
+	[BLOCK + FORWARD] = {"rectangle::forward", PAIR | LENGTH | BOUND | RULE, CODE(bench_rectangle_forward),
 		CODE(twin_rectangle_forward)},
-	[BLOCK + INVERSE] = {"rectangle::inverse", PAIR | LENGTH | BOUND, CODE(bench_rectangle_inverse),
+	[BLOCK + INVERSE] = {"rectangle::inverse", PAIR | LENGTH | BOUND | RULE, CODE(bench_rectangle_inverse),
 		CODE(twin_rectangle_inverse)},
-	[BLOCK + ALLOWANCE] = {"rectangle::allowance", PAIR | LENGTH | ALLOW, CODE(bench_rectangle_allowance), NULL},
-	[BLOCK + STRIP_FORWARD] = {"strip::joint_forward", PAIR | LENGTH, CODE(bench_rectangle_strip_forward),
+	[BLOCK + ALLOWANCE] = {"rectangle::allowance", PAIR | LENGTH | ALLOW | RULE, CODE(bench_rectangle_allowance), NULL},
+	[BLOCK + STRIP_FORWARD] = {"strip::joint_forward", PAIR | LENGTH | RULE, CODE(bench_rectangle_strip_forward),
 		CODE(twin_rectangle_strip_forward)},
-	[BLOCK + STRIP_INVERSE] = {"strip::joint_inverse", PAIR | LENGTH, CODE(bench_rectangle_strip_inverse),
+	[BLOCK + STRIP_INVERSE] = {"strip::joint_inverse", PAIR | LENGTH | RULE, CODE(bench_rectangle_strip_inverse),
 		CODE(twin_rectangle_strip_inverse)},
+	[BY_RULES] = {"line::forward, rule 1", SHEET | BOUND, CODE(bench_forward), CODE(twin_forward)},
+	[BY_RULES + 1] = {"line::inverse, rule 1", SHEET | BOUND, CODE(bench_inverse), CODE(twin_inverse)},
+	[BY_RULES + 2] = {"rectangle::forward, rule 1", PAIR | BOUND, CODE(bench_rectangle_forward), CODE(twin_rectangle_forward)},
+	[BY_RULES + 3] = {"rectangle::inverse, rule 1", PAIR | BOUND, CODE(bench_rectangle_inverse), CODE(twin_rectangle_inverse)},
+	[BY_RULES + 4] = {"line::forward, rule 2", SHEET | BOUND, CODE(bench_forward), CODE(twin_forward)},
+	[BY_RULES + 5] = {"line::inverse, rule 2", SHEET | BOUND, CODE(bench_inverse), CODE(twin_inverse)},
+	[BY_RULES + 6] = {"rectangle::forward, rule 2", PAIR | BOUND, CODE(bench_rectangle_forward), CODE(twin_rectangle_forward)},
+	[BY_RULES + 7] = {"rectangle::inverse, rule 2", PAIR | BOUND, CODE(bench_rectangle_inverse), CODE(twin_rectangle_inverse)},
 	[TEXT] = {"session::text_of", SHEET | LENGTH | BOUND | ALLOW | SPELT | ROOM, CODE(bench_text_of), NULL},
 };
 
@@ -136,26 +157,31 @@ static struct {
 	uint64_t stages; // those at which a number was beyond the bound
 } seen[CALLS];
 
-static struct result ask(size_t which, const struct slice a[5])
+static bool takes_rule(size_t which) { return which >= LINE && which < TEXT; }
+
+static struct result ask(size_t which, uint32_t rule, const struct slice a[5])
 {
+	struct words w = {.rule = rule};
+	memcpy(w.slices, a, sizeof w.slices);
+	const void *words = takes_rule(which) ? (const void *)&w.rule : w.slices;
 	size_t reach = which == TEXT ? DEEPEST : DEEPEST / 16; // the program keeps three long arrays
 	struct result r, s;
-	deepen(&seen[which].library, depth_of(calls[which].library, a, reach, &r));
+	deepen(&seen[which].library, depth_of(calls[which].library, words, reach, &r));
 	if (calls[which].twin)
-		deepen(&seen[which].twin, depth_of(calls[which].twin, a, reach, &s));
+		deepen(&seen[which].twin, depth_of(calls[which].twin, words, reach, &s));
 	return r;
 }
 
-static void ask_answer(size_t which, const struct slice a[5])
+static void ask_answer(size_t which, uint32_t rule, const struct slice a[5])
 {
-	struct result r = ask(which, a);
+	struct result r = ask(which, rule, a);
 	uint32_t number = (uint32_t)r.first;
 	seen[which].answers |= 1u << number;
 	if (number == 11)
 		seen[which].stages |= 1ull << r.second;
 }
 
-#define ASK(which, ...) ask_answer(which, (struct slice[5]){__VA_ARGS__})
+#define ASK(which, ...) ask_answer(which, 0, (struct slice[5]){__VA_ARGS__})
 
 // ---- sheets
 
@@ -237,38 +263,66 @@ static void fill(size_t size)
 }
 
 // The calls of a shape: the first `sheets` slices are given, and all else follows.
-static void ask_runs(size_t shape, struct slice *a, size_t sheets, size_t size)
+
+static void ask_blocks(size_t which, uint32_t rule, struct slice *a, size_t sheets, size_t size)
 {
-	struct slice *from = a + sheets, *to = from + 1, *marks = from + 2;
-	fill(size);
+	a[sheets + 1] = (struct slice){y, size};
+	for (size_t k = 0; k < BLOCKS; k++) {
+		a[sheets] = (struct slice){x + k * size, size};
+		ask_answer(which, rule, a);
+	}
+}
+
+static void ask_single(size_t shape, struct slice *a, size_t sheets, size_t size)
+{
+	struct slice *from = a + sheets, *to = from + 1;
 	for (size_t way = FORWARD; way <= INVERSE; way++) {
-		*to = (struct slice){y, size};
-		for (size_t k = 0; k < BLOCKS; k++) {
-			*from = (struct slice){x + k * size, size};
-			ask_answer(shape + way, a);
-		}
-		*from = (struct slice){x, size + 1};
-		ask_answer(shape + way, a);
-		from->len = size;
+		ask_blocks(shape + way, 0, a, sheets, size);
+		from->len++;
+		ask_answer(shape + way, 0, a);
+		from->len--;
 		to->len++;
-		ask_answer(shape + way, a);
+		ask_answer(shape + way, 0, a);
 	}
 	*from = (struct slice){y, size};
-	ask_answer(shape + ALLOWANCE, a);
+	ask_answer(shape + ALLOWANCE, 0, a);
 	from->len++;
-	ask_answer(shape + ALLOWANCE, a);
+	ask_answer(shape + ALLOWANCE, 0, a);
+}
+
+static void ask_strips(size_t shape, struct slice *a, size_t sheets, size_t size)
+{
+	struct slice *from = a + sheets, *to = from + 1, *marks = from + 2;
 	for (size_t way = STRIP_FORWARD; way <= STRIP_INVERSE; way++) {
 		*marks = (struct slice){bytes, BLOCKS};
 		*from = (struct slice){x, BLOCKS * size};
 		*to = (struct slice){y, BLOCKS * size};
-		ask_answer(shape + way, a);
+		ask_answer(shape + way, 0, a);
 		to->len++;
-		ask_answer(shape + way, a);
+		ask_answer(shape + way, 0, a);
 		from->len++;
-		ask_answer(shape + way, a);
+		ask_answer(shape + way, 0, a);
 		from->len = to->len = marks->len = 0;
-		ask_answer(shape + way, a);
+		ask_answer(shape + way, 0, a);
 	}
+}
+
+// By rules 1 and 2; then by a number that is none.
+static void ask_by_rules(size_t shape, struct slice *a, size_t sheets, size_t size)
+{
+	for (uint32_t rule = 1; rule < RULES; rule++)
+		for (size_t way = FORWARD; way <= INVERSE; way++)
+			ask_blocks(BY_RULES + 4 * (rule - 1) + (shape == BLOCK ? 2 : 0) + way, rule, a, sheets, size);
+	for (size_t task = FORWARD; task <= STRIP_INVERSE; task++)
+		ask_answer(shape + task, RULES, a);
+}
+
+static void ask_runs(size_t shape, struct slice *a, size_t sheets, size_t size)
+{
+	fill(size);
+	ask_single(shape, a, sheets, size);
+	ask_strips(shape, a, sheets, size);
+	ask_by_rules(shape, a, sheets, size);
 }
 
 static void ask_sheet(const struct sheet *s)
@@ -280,7 +334,7 @@ static void ask_sheet(const struct sheet *s)
 static void ask_pair(const struct sheet *col, const struct sheet *row)
 {
 	ASK(CHECK_PAIR, of(col), of(row));
-	ask(REST, (struct slice[5]){of(col), of(row)});
+	ask(REST, 0, (struct slice[5]){of(col), of(row)});
 	ask_runs(BLOCK, (struct slice[5]){of(col), of(row)}, 2, order_of(col) * order_of(row));
 }
 
@@ -324,7 +378,7 @@ static void ask_recipe(const struct sheet *s)
 static void ask_text(const struct spelling *b)
 {
 	static char out[4096];
-	struct result r = ask(TEXT, (struct slice[5]){{b->at, b->len}, {out, sizeof out - 1}});
+	struct result r = ask(TEXT, 0, (struct slice[5]){{b->at, b->len}, {out, sizeof out - 1}});
 	out[r.first] = 0;
 	const char *refusal = strstr(out, "refused ");
 	seen[TEXT].answers |= 1u << (refusal ? atoi(refusal + 8) : 0);
@@ -375,7 +429,7 @@ static void print(size_t which)
 		printf("%s: the cases bring about answers %x, stages %llx\n", c->name, seen[which].answers, (unsigned long long)stages);
 		exit(1);
 	}
-	printf("%-24s %8zu", c->name, seen[which].library);
+	printf("%-28s %8zu", c->name, seen[which].library);
 	if (c->twin)
 		printf(" %8zu", seen[which].twin);
 	printf("\n");
@@ -393,7 +447,7 @@ int main(void)
 	}
 	ask_misspelt();
 	ask_tables();
-	printf("%-24s %8s %8s\n", "deepest stack, bytes", "library", "C");
+	printf("%-28s %8s %8s\n", "deepest stack, bytes", "library", "C");
 	for (size_t k = 0; k < CALLS; k++)
 		print(k);
 	return 0;

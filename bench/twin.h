@@ -1,5 +1,6 @@
 // What line.c and rectangle.c share: a sheet checked and decoded in one pass into a table of steps; rounding; the bound. What
-// takes an order is compiled into its caller: where that gives a literal, loops have fixed lengths and numbers fixed places.
+// takes an order or a rule is compiled into its caller: where that gives a literal, loops have fixed lengths, numbers fixed
+// places, and a rounding is that rule's alone.
 #ifndef TWIN_H
 #define TWIN_H
 #include "bench.h"
@@ -97,10 +98,24 @@ INLINE struct answer lengths(size_t n, bool strip, size_t xn, size_t yn, size_t 
 
 // ---- a stage
 
-// Halves upward: R of a line's sum, R2 of a rectangle's. An own term is a multiple of 4096, or of 16777216, so it may as well
-// stand inside the rounding.
-INLINE int64_t R(int64_t s) { return (s + 2048) >> 12; }
-INLINE int64_t R2(int64_t s) { return (s + 8388608) >> 24; }
+// Rule 0 is nearest with halves upward, 1 floor, 2 nearest with halves to the even quotient. An own term, +-own times the scale,
+// may as well stand inside the rounding: rules 0 and 1 cannot tell. It moves the quotient by +-own. So rule 2, which looks
+// whether the quotient without it is even, takes own's last bit off again. Where it is, a half must stay below: 1 less is added.
+INLINE int64_t rounded(uint32_t rule, int64_t s, uint32_t bits, int32_t own)
+{
+	int64_t half = (int64_t)1 << (bits - 1);
+	switch (rule) {
+	case 0: return (s + half) >> bits;
+	case 1: return s >> bits;
+	default: return (s + half - 1 + (((s >> bits) ^ own) & 1)) >> bits;
+	}
+}
+
+// R of a line's sum, R2 of a rectangle's; and with the own term inside.
+INLINE int64_t R(uint32_t rule, int64_t s) { return rounded(rule, s, 12, 0); }
+INLINE int64_t R2(uint32_t rule, int64_t s) { return rounded(rule, s, 24, 0); }
+INLINE int64_t R_with(uint32_t rule, int64_t s, int32_t own) { return rounded(rule, s, 12, own); }
+INLINE int64_t R2_with(uint32_t rule, int64_t s, int32_t own) { return rounded(rule, s, 24, own); }
 
 INLINE uint32_t is_beyond(int64_t z) { return (uint64_t)z + SAMPLE > 2 * SAMPLE; }
 

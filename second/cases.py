@@ -4,10 +4,11 @@ Usage: python3 second/cases.py CALLS SEED COUNT > stream
 CALLS is a comma list of call names (or `all`, or `figures` for the printed
 figures, whatever SEED and COUNT); COUNT cases of each call follow
 one another, so a list of calls gives the streams of its calls end to end.
-With TALLY=1 in the environment the answers are counted on standard error.
+With TALLY=1 in the environment the answers are counted on standard error, and
+for the runs and allowances how many cases another rule would answer otherwise.
 
-A case: call number, lengths of A, B, X, Y; the words of A, B, X, Y; number,
-side, place; the words of Y after the call.
+A case: call number, rule, lengths of A, B, X, Y; the words of A, B, X, Y;
+number, side, place; the words of Y after the call.
 """
 
 import os
@@ -19,16 +20,18 @@ from collections import Counter, namedtuple
 import figures as laws
 import generate
 import model
-from generate import chance, numbers_of
+from generate import chance, nearest_if_wrong, numbers_of
 
 # A: column sheet or recipe bytes; B: row sheet; X: input block; Y: lent output.
-Case = namedtuple("Case", "a b x y answer after")
+# A call that takes no rule has 0.
+Case = namedtuple("Case", "rule a b x y answer after")
 
 # How often a run's sheet is damaged, its lengths are wrong, its pair doesn't
 # match. The rest goes through the factors, a few with the largest sums.
 RUN_DAMAGE = 0.22
 WRONG_LENGTH = 0.12
 MISMATCH = 0.08
+STEEP = 0.06
 HEAVY = 0.003
 
 
@@ -45,7 +48,7 @@ def some_sheet(rng, longest, damaged):
 
 def case_check(rng, longest):
     sheet = some_sheet(rng, longest, 0.55)
-    return Case(sheet, [], [], [], model.check(sheet), [])
+    return Case(0, sheet, [], [], [], model.check(sheet), [])
 
 
 def pair_for_check(rng, longest):
@@ -63,13 +66,13 @@ def pair_for_check(rng, longest):
 
 def case_pair(rng, longest):
     col, row = pair_for_check(rng, longest)
-    return Case(col, row, [], [], model.check_pair(col, row), [])
+    return Case(0, col, row, [], [], model.check_pair(col, row), [])
 
 
 def case_rest(rng, longest):
     col, row = pair_for_check(rng, longest)
     which, start = model.rest(col, row)
-    return Case(col, row, [], [], (which, 0, start), [])
+    return Case(0, col, row, [], [], (which, 0, start), [])
 
 
 # ---------------------------------------------------------------------------
@@ -101,7 +104,7 @@ def case_read(rng, longest):
     data = bytes_for_read(rng, longest)
     room = generate.lent(rng, room_length(rng, count_of_numbers(data)))
     answer, after = model.read(data, room)
-    return Case(data, [], [], room, answer, after)
+    return Case(0, data, [], [], room, answer, after)
 
 
 def case_write(rng, longest):
@@ -109,14 +112,14 @@ def case_write(rng, longest):
     needed = len(model.encode(sheet))
     room = [rng.randrange(256) for _ in range(room_length(rng, needed))]
     answer, after = model.write(sheet, room)
-    return Case(sheet, [], [], room, answer, after)
+    return Case(0, sheet, [], [], room, answer, after)
 
 
 def case_table(rng, longest, call):
     length = 4386 if longest else rng.choice([0, 44, 45, 46, rng.randint(0, 100)])
     room = generate.lent(rng, length)
     answer, after = call(room)
-    return Case([], [], [], room, answer, after)
+    return Case(0, [], [], [], room, answer, after)
 
 
 def case_built_in(rng, longest):
@@ -150,42 +153,47 @@ def block_lengths(rng, orders):
     return for_input, for_input if way == 3 else for_output
 
 
+def case_rule(rng, longest):
+    """Any number; the longest sheet isn't spent on a wrong one."""
+    return generate.true_rule(rng) if longest else generate.some_rule(rng)
+
+
 def line_draft(rng, longest):
     if longest:
         return generate.longest_draft(rng, generate.faint_entry)
-    if chance(rng, 0.06):
+    if chance(rng, STEEP):
         return generate.steep_draft(rng)
-    return generate.some_draft(rng)
+    return generate.ruled_draft(rng)
 
 
-def forward_input(rng, sheet, length):
+def forward_input(rng, rule, sheet, length):
     """A block for a forward run of a valid sheet."""
     if length == sheet[0] and chance(rng, 0.3):
-        return generate.line_block_to_edge(rng, sheet, False)
+        return generate.line_block_to_edge(rng, rule, sheet, False)
     return generate.some_block(rng, length)
 
 
-def inverse_input(rng, sheet, length):
+def inverse_input(rng, rule, sheet, length):
     """Real coefficients, a block that meets the bound, or any block."""
     if length == sheet[0] and chance(rng, 0.45):
-        answer, y = model.line_forward(sheet, generate.some_block(rng, length), [0] * length)
+        answer, y = model.line_forward(rule, sheet, generate.some_block(rng, length), [0] * length)
         if answer[0] == 0:
             return y
     if length == sheet[0] and chance(rng, 0.3):
-        return generate.line_block_to_edge(rng, sheet, True)
+        return generate.line_block_to_edge(rng, rule, sheet, True)
     return generate.some_block(rng, length)
 
 
 def case_line_run(rng, longest, make_input, call):
-    draft = line_draft(rng, longest)
+    rule, draft = case_rule(rng, longest), line_draft(rng, longest)
     sheet = numbers_of(draft)
     x_length, y_length = (16, 16) if longest else block_lengths(rng, [sheet[0]])
-    x = [generate.small(rng) for _ in range(16)] if longest else make_input(rng, sheet, x_length)
+    x = [generate.small(rng) for _ in range(16)] if longest else make_input(rng, nearest_if_wrong(rule), sheet, x_length)
     if not longest:
         sheet = numbers_of(generate.maybe_damage(rng, draft, RUN_DAMAGE))
     y = generate.lent(rng, y_length)
-    answer, after = call(sheet, x, y)
-    return Case(sheet, [], x, y, answer, after)
+    answer, after = call(rule, sheet, x, y)
+    return Case(rule, sheet, [], x, y, answer, after)
 
 
 def case_line_forward(rng, longest):
@@ -196,24 +204,25 @@ def case_line_inverse(rng, longest):
     return case_line_run(rng, longest, inverse_input, model.line_inverse)
 
 
-def allowance_sheet(rng, longest):
+def allowance_sheet(rng, rule, longest):
     """Some pass the limit at a late stage, a few by one unit only."""
     if longest:
         return numbers_of(generate.longest_draft(rng))
     u = rng.random()
     if u < 0.03:
-        return generate.limit_sheet(rng)
+        return generate.limit_sheet(rng, nearest_if_wrong(rule))
     if u < 0.12:
         return numbers_of(generate.steep_draft(rng))
     return numbers_of(generate.maybe_damage(rng, generate.some_draft(rng), RUN_DAMAGE))
 
 
 def case_line_allowance(rng, longest):
-    sheet = allowance_sheet(rng, longest)
+    rule = case_rule(rng, longest)
+    sheet = allowance_sheet(rng, rule, longest)
     order = sheet[0] if sheet and 1 <= sheet[0] <= 16 else rng.randint(1, 16)
     out = generate.lent(rng, order if longest else block_lengths(rng, [order])[1])
-    answer, after = model.line_allowance(sheet, out)
-    return Case(sheet, [], [], out, answer, after)
+    answer, after = model.line_allowance(rule, sheet, out)
+    return Case(rule, sheet, [], [], out, answer, after)
 
 
 # ---------------------------------------------------------------------------
@@ -226,11 +235,11 @@ def joint_drafts(rng, longest):
     u = rng.random()
     if u < MISMATCH:
         return generate.mismatching_pair(rng)
-    if u < MISMATCH + 0.06:
+    if u < MISMATCH + STEEP:
         return generate.steep_pair(rng)
-    if u < MISMATCH + 0.06 + HEAVY:
+    if u < MISMATCH + STEEP + HEAVY:
         return generate.heavy_pair(rng)
-    return generate.matching_pair(rng)
+    return generate.ruled_pair(rng)
 
 
 def fits_pair(col, row, length):
@@ -238,50 +247,52 @@ def fits_pair(col, row, length):
     return length == col[0] * row[0] and model.check_pair(col, row)[0] == 0
 
 
-def joint_forward_input(rng, col, row, length):
+def joint_forward_input(rng, rule, col, row, length):
     if fits_pair(col, row, length) and chance(rng, 0.3):
-        return generate.joint_block_to_edge(rng, col, row, False)
+        return generate.joint_block_to_edge(rng, rule, col, row, False)
     return generate.some_block(rng, length)
 
 
-def joint_inverse_input(rng, col, row, length):
+def joint_inverse_input(rng, rule, col, row, length):
     """Real coefficients, a block that meets the bound, or any block."""
     if fits_pair(col, row, length) and chance(rng, 0.45):
         x = generate.some_block(rng, length)
-        answer, y = model.joint_forward(col, row, x, [0] * length)
+        answer, y = model.joint_forward(rule, col, row, x, [0] * length)
         if answer[0] == 0:
             return y
     if fits_pair(col, row, length) and chance(rng, 0.3):
-        return generate.joint_block_to_edge(rng, col, row, True)
+        return generate.joint_block_to_edge(rng, rule, col, row, True)
     return generate.some_block(rng, length)
 
 
 def case_heavy_run(rng, call):
     """The largest sums that a stage can have."""
+    rule = generate.some_rule(rng)
     column, row = generate.heavy_pair(rng)
     col_sheet, row_sheet = numbers_of(column), numbers_of(row)
     x = [rng.choice([1, -1]) * model.SAMPLE_LIMIT] * (col_sheet[0] * row_sheet[0])
     y = generate.lent(rng, len(x))
-    answer, after = call(col_sheet, row_sheet, x, y)
-    return Case(col_sheet, row_sheet, x, y, answer, after)
+    answer, after = call(rule, col_sheet, row_sheet, x, y)
+    return Case(rule, col_sheet, row_sheet, x, y, answer, after)
 
 
 def case_joint_run(rng, longest, make_input, call):
     if not longest and chance(rng, HEAVY):
         return case_heavy_run(rng, call)
+    rule = case_rule(rng, longest)
     column, row = joint_drafts(rng, longest)
     col_sheet, row_sheet = numbers_of(column), numbers_of(row)
     if longest:
         x, y_length = [generate.small(rng) for _ in range(256)], 256
     else:
         x_length, y_length = block_lengths(rng, [col_sheet[0], row_sheet[0]])
-        x = make_input(rng, col_sheet, row_sheet, x_length)
+        x = make_input(rng, nearest_if_wrong(rule), col_sheet, row_sheet, x_length)
         if chance(rng, RUN_DAMAGE):
             column, row = generate.damage_pair(rng, column, row)
             col_sheet, row_sheet = numbers_of(column), numbers_of(row)
     y = generate.lent(rng, y_length)
-    answer, after = call(col_sheet, row_sheet, x, y)
-    return Case(col_sheet, row_sheet, x, y, answer, after)
+    answer, after = call(rule, col_sheet, row_sheet, x, y)
+    return Case(rule, col_sheet, row_sheet, x, y, answer, after)
 
 
 def case_joint_forward(rng, longest):
@@ -292,17 +303,18 @@ def case_joint_inverse(rng, longest):
     return case_joint_run(rng, longest, joint_inverse_input, model.joint_inverse)
 
 
-def limit_pair(rng):
+def limit_pair(rng, rule):
     """A line sheet at the limit of allowance beside a sheet of order 1 with
     the same kinds: the joint rule then gives the line's allowances."""
-    sheet = generate.limit_sheet(rng)
+    sheet = generate.limit_sheet(rng, rule)
     one = generate.sheet_of(1, [generate.single_row(0, 1, [0])] * sheet[1])
     return (sheet, one) if chance(rng, 0.5) else (one, sheet)
 
 
 def case_joint_allowance(rng, longest):
+    rule = case_rule(rng, longest)
     if not longest and chance(rng, 0.03):
-        col, row = limit_pair(rng)
+        col, row = limit_pair(rng, nearest_if_wrong(rule))
         orders = [col[0], row[0]]
     else:
         column, row_draft = joint_drafts(rng, longest)
@@ -311,8 +323,8 @@ def case_joint_allowance(rng, longest):
             column, row_draft = generate.damage_pair(rng, column, row_draft)
         col, row = numbers_of(column), numbers_of(row_draft)
     out = generate.lent(rng, 256 if longest else block_lengths(rng, orders)[1])
-    answer, after = model.joint_allowance(col, row, out)
-    return Case(col, row, [], out, answer, after)
+    answer, after = model.joint_allowance(rule, col, row, out)
+    return Case(rule, col, row, [], out, answer, after)
 
 
 # ---------------------------------------------------------------------------
@@ -327,14 +339,14 @@ def strip_input(rng, size, make_block, blocks):
     return x[:-1] if x and chance(rng, 0.03) else x
 
 
-def strip_case(rng, col, row, x, size, run):
+def strip_case(rng, rule, col, row, x, size, run):
     """The lent slices are right in most cases."""
     wrong = [0, -1, 1, size, -size]
     y_length = max(0, len(x) + (rng.choice(wrong) if chance(rng, 0.06) else 0))
     marks = max(0, len(x) // size + (rng.choice(wrong) if chance(rng, 0.06) else 0))
     out, before = generate.lent(rng, y_length), [rng.randrange(256) for _ in range(marks)]
     answer, after, numbers = run(x, out, before)
-    return Case(col, row, [marks] + x, out + before, answer, after + numbers)
+    return Case(rule, col, row, [marks] + x, out + before, answer, after + numbers)
 
 
 def strip_blocks(rng, longest, size):
@@ -343,24 +355,26 @@ def strip_blocks(rng, longest, size):
 
 
 def case_line_strip(rng, longest, make_input, call):
-    draft = generate.some_draft(rng) if longest else line_draft(rng, False)
+    rule, draft = case_rule(rng, longest), generate.ruled_draft(rng) if longest else line_draft(rng, False)
     sheet = numbers_of(draft)
-    x = strip_input(rng, sheet[0], lambda size: make_input(rng, sheet, size), strip_blocks(rng, longest, sheet[0]))
-    size = sheet[0]
+    size, made_by = sheet[0], nearest_if_wrong(rule)
+    x = strip_input(rng, size, lambda length: make_input(rng, made_by, sheet, length), strip_blocks(rng, longest, size))
     sheet = sheet if longest else numbers_of(generate.maybe_damage(rng, draft, RUN_DAMAGE))
-    return strip_case(rng, sheet, [], x, size, lambda v, w, marks: model.line_strip(sheet, v, w, marks, call))
+    return strip_case(rng, rule, sheet, [], x, size, lambda v, w, marks: model.line_strip(rule, sheet, v, w, marks, call))
 
 
 def case_joint_strip(rng, longest, make_input, call):
-    column, row = generate.matching_pair(rng) if longest else joint_drafts(rng, False)
+    rule = case_rule(rng, longest)
+    column, row = generate.ruled_pair(rng) if longest else joint_drafts(rng, False)
     col_sheet, row_sheet = numbers_of(column), numbers_of(row)
-    size = col_sheet[0] * row_sheet[0]
-    x = strip_input(rng, size, lambda length: make_input(rng, col_sheet, row_sheet, length), strip_blocks(rng, longest, size))
+    size, made_by = col_sheet[0] * row_sheet[0], nearest_if_wrong(rule)
+    x = strip_input(rng, size, lambda length: make_input(rng, made_by, col_sheet, row_sheet, length),
+                    strip_blocks(rng, longest, size))
     if not longest and chance(rng, RUN_DAMAGE):
         column, row = generate.damage_pair(rng, column, row)
         col_sheet, row_sheet = numbers_of(column), numbers_of(row)
-    return strip_case(rng, col_sheet, row_sheet, x, size,
-                      lambda v, w, marks: model.joint_strip(col_sheet, row_sheet, v, w, marks, call))
+    return strip_case(rng, rule, col_sheet, row_sheet, x, size,
+                      lambda v, w, marks: model.joint_strip(rule, col_sheet, row_sheet, v, w, marks, call))
 
 
 def case_line_strip_forward(rng, longest):
@@ -387,7 +401,7 @@ def program_block(rng, sheet, length):
     """A block that three groups can hold; runs reach the bound by growth."""
     if chance(rng, 0.15):
         return [rng.choice([-1048576, 1048575, 1000000]) for _ in range(length)]
-    return generate.in_three_groups(forward_input(rng, sheet, length))
+    return generate.in_three_groups(forward_input(rng, model.NEAREST, sheet, length))
 
 
 def program_to_edge(rng):
@@ -418,7 +432,7 @@ def program_numbers(rng, longest):
     sheet = numbers_of(draft)
     block = program_block(rng, sheet, block_lengths(rng, [sheet[0]])[0])
     if chance(rng, 0.04):
-        sheet = generate.limit_sheet(rng)
+        sheet = generate.limit_sheet(rng, model.NEAREST)
         block = [generate.tiny(rng) for _ in range(sheet[0])]
     elif chance(rng, 0.02):
         sheet, block = program_to_edge(rng)
@@ -449,28 +463,31 @@ def program_bytes(rng, longest):
 def case_program(rng, longest):
     data = program_bytes(rng, longest)
     printed = list(model.program(data).encode("ascii"))
-    return Case(data, [], [], [0] * len(printed), (0, 0, len(printed)), printed)
+    return Case(0, data, [], [], [0] * len(printed), (0, 0, len(printed)), printed)
 
 
 # ---------------------------------------------------------------------------
-# The laws of demand 3, tried on the library's own coefficients. Where a law
-# leaves room, Y holds the least coefficients before the call and the largest
-# after it. The cut law leaves none: the answer expected of the second part is
-# got from the whole run.
+# The laws of demand 3, tried on the library's own coefficients, each with one
+# of the three rules: the laws speak of no other number. Where a law leaves
+# room, Y holds the least coefficients before the call and the largest after
+# it. The cut law leaves none: the answer expected of the second part is got
+# from the whole run.
 
 
 def law_recipe(rng, longest, joint):
     """A checked sheet or a checked pair: the laws speak of no other."""
+    if not longest:
+        return laws.some_pair(rng) if joint else laws.some_line(rng)
     if joint:
-        column, row = generate.longest_pair(rng, generate.faint_entry) if longest else generate.matching_pair(rng)
+        column, row = generate.longest_pair(rng, generate.faint_entry)
         return numbers_of(column), numbers_of(row)
-    return numbers_of(generate.longest_draft(rng, generate.faint_entry) if longest else generate.some_draft(rng)), None
+    return numbers_of(generate.longest_draft(rng, generate.faint_entry)), None
 
 
-def law_block(rng, recipe, longest):
+def law_block(rng, rule, recipe, longest):
     if longest:
         return [generate.small(rng) for _ in range(laws.block_length(recipe))]
-    return laws.some_input(rng, recipe)
+    return laws.some_input(rng, rule, recipe)
 
 
 def around(exact, scale, room):
@@ -479,46 +496,47 @@ def around(exact, scale, room):
     return -((reach - middle) // whole), (middle + reach) // whole
 
 
-def law_case(recipe, x, ranges):
+def law_case(rule, recipe, x, ranges):
     """A forward run whose coefficients have to lie in those ranges."""
     col, row = recipe
     least, most = [low for low, _ in ranges], [high for _, high in ranges]
-    return Case(col, row or [], x, least, (0, 0, 0), most)
+    return Case(rule, col, row or [], x, least, (0, 0, 0), most)
 
 
-def by_exact_product(rng, recipe, longest):
+def by_exact_product(rng, rule, recipe, longest):
     """4096·|D·y - E| ≤ D·b, around the exact product E."""
-    x = law_block(rng, recipe, longest)
-    answer, _ = laws.run_forward(recipe, x)
-    allowed, b = laws.run_allowance(recipe, len(x))
+    x = law_block(rng, rule, recipe, longest)
+    answer, _ = laws.run_forward(rule, recipe, x)
+    allowed, b = laws.run_allowance(rule, recipe, len(x))
     if answer != laws.OK or allowed != laws.OK:
         return None
     e, d = laws.exact(recipe, x)
-    return law_case(recipe, x, [around(e[m], d, b[m]) for m in range(len(x))])
+    return law_case(rule, recipe, x, [around(e[m], d, b[m]) for m in range(len(x))])
 
 
-def by_difference(rng, recipe, longest):
+def by_difference(rng, rule, recipe, longest):
     """4096·|F(x) - F(z) - F(x-z)| ≤ 3·b, around F(x) - F(z)."""
-    x, z = law_block(rng, recipe, longest), law_block(rng, recipe, longest)
+    x, z = law_block(rng, rule, recipe, longest), law_block(rng, rule, recipe, longest)
     apart = [p - q for p, q in zip(x, z)]
-    (first, fx), (second, fz), (third, _) = [laws.run_forward(recipe, v) for v in (x, z, apart)]
-    allowed, b = laws.run_allowance(recipe, len(x))
+    (first, fx), (second, fz), (third, _) = [laws.run_forward(rule, recipe, v) for v in (x, z, apart)]
+    allowed, b = laws.run_allowance(rule, recipe, len(x))
     if {first, second, third, allowed} != {laws.OK}:
         return None
-    return law_case(recipe, apart, [around(fx[m] - fz[m], 1, 3 * b[m]) for m in range(len(x))])
+    return law_case(rule, recipe, apart, [around(fx[m] - fz[m], 1, 3 * b[m]) for m in range(len(x))])
 
 
 def case_law(rng, longest, joint):
-    """Either law, on a recipe and a block that it speaks of."""
-    law = rng.choice([by_exact_product, by_difference])
+    """Either law, on a recipe and a block that it speaks of, by one rule."""
+    law, rule = rng.choice([by_exact_product, by_difference]), generate.true_rule(rng)
     while True:
-        case = law(rng, law_recipe(rng, longest, joint), longest)
+        case = law(rng, rule, law_recipe(rng, longest, joint), longest)
         if case is not None:
             return case
 
 
 def case_cut(rng, longest, joint):
-    """The second part of a cut recipe, on what the first part gave."""
+    """The second part of a cut recipe, on what the first part gave, all by one rule."""
+    rule = generate.true_rule(rng)
     while True:
         recipe = law_recipe(rng, longest, joint)
         col, row = recipe
@@ -526,14 +544,14 @@ def case_cut(rng, longest, joint):
             continue
         position = rng.randint(1, col[1] - 1)
         (col1, col2), (row1, row2) = laws.cut_sheet(col, position), laws.cut_sheet(row, position) if joint else (None, None)
-        x = law_block(rng, recipe, longest)
-        first, between = laws.run_forward((col1, row1), x)
+        x = law_block(rng, rule, recipe, longest)
+        first, between = laws.run_forward(rule, (col1, row1), x)
         if first != laws.OK:
             continue
-        number, side, stage = laws.run_forward(recipe, x)[0]
+        (number, side, stage), whole = laws.run_forward(rule, recipe, x)
         y = generate.lent(rng, len(x))
-        after = laws.run_forward(recipe, x)[1] if number == 0 else y
-        return Case(col2, row2 or [], between, y, (number, side, stage - position if number else 0), after)
+        after = whole if number == 0 else y
+        return Case(rule, col2, row2 or [], between, y, (number, side, stage - position if number else 0), after)
 
 
 def case_line_law(rng, longest):
@@ -585,9 +603,38 @@ CALLS = {
 # no line of the model stands between them and the library. Lent memory is 9.
 
 
-def printed(call, a, b, x, length, answer, after):
+def printed(call, a, b, x, length, answer, after, rule=0):
     """One figure; a refused call leaves the 9s."""
-    return call, Case(a, b, x, [9] * length, answer, after or [9] * length)
+    return call, Case(rule, a, b, x, [9] * length, answer, after or [9] * length)
+
+
+def rule_cases():
+    """Request R-5: what rules 0, 1 and 2 give, and the refusal of any other."""
+    a, ok = laws.SHEET_A, laws.OK
+    for rule in (0, 1, 2):
+        for halves, units, wanted in laws.HALVES:
+            sheet, x = laws.line_at(halves, units)
+            yield printed(7, sheet, [], x, 2, ok, [x[0], 7 + wanted[rule]], rule)
+            col, row, x = laws.block_at(halves, units)
+            # A unit below zero in the sums of the other two numbers: 0, or -1 by the floor.
+            below = [-1 if rule == 1 and sign * units < 0 else 0 for sign in (1, -1)]
+            yield printed(10, col, row, x, 4, ok, [x[0], x[1] + below[0], below[1], 7 + wanted[rule]], rule)
+        for x, wanted in laws.LINES:
+            yield printed(7, a, [], x, 2, ok, wanted[rule], rule)
+            yield printed(8, a, [], wanted[rule], 2, ok, x, rule)
+        for x, wanted in laws.BLOCKS:
+            yield printed(10, a, a, x, 4, ok, wanted[rule], rule)
+            yield printed(11, a, a, wanted[rule], 4, ok, x, rule)
+        yield printed(7, laws.SHEET_DRIFT, [], [1, 0], 2, ok, laws.DRIFT[rule], rule)
+        for sheet, wanted in laws.ALLOWANCES:
+            yield printed(9, sheet, [], [], sheet[0], ok, wanted[rule], rule)
+        share = [2048, 4096, 2048][rule]
+        yield printed(12, a, a, [], 4, ok, [0, share, share, share], rule)
+    yield printed(7, laws.SHEET_ALMOST, [], [1, 0], 2, ok, [1, 0], 1)
+    yield printed(9, laws.SHEET_ALMOST, [], [], 2, ok, [0, 4096], 1)
+    for call in (7, 8, 9, 10, 11, 12, 17, 18, 19, 20):
+        for rule in (3, 2 ** 32 - 1):
+            yield printed(call, [], [], [0], 1, (16, 0, 0), None, rule)
 
 
 def figure_cases():
@@ -618,13 +665,19 @@ def figure_cases():
     yield printed(forward, first, [], [0, 100, 0, 0], 4, ok, [163, -94, 94, -65])
     yield printed(forward, corrected, [], [0, 100, 0, 0], 4, ok, [65, 28, -28, -65])
     yield printed(read, [0x84, 0x00], [], [], 2, (14, 0, 0), None)
+    yield from rule_cases()
+
+
+def signed(bits):
+    """The word of 32 bits, as a signed number."""
+    return bits - 2 ** 32 if bits > generate.I32_MAX else bits
 
 
 def words_of(call_number, case):
     """A case in the order of the stream."""
-    lengths = [len(case.a), len(case.b), len(case.x), len(case.y)]
+    head = [call_number, signed(case.rule), len(case.a), len(case.b), len(case.x), len(case.y)]
     before = case.a + case.b + case.x + case.y
-    return [call_number] + lengths + before + list(case.answer) + case.after
+    return head + before + list(case.answer) + case.after
 
 
 def packed(words):
@@ -648,19 +701,40 @@ def tally_key(name, case):
     return int(refused[0]) if refused else 0
 
 
-def print_tally(name, tally, count, size):
+BY_RULE = {
+    7: lambda rule, case: model.line_forward(rule, case.a, case.x, case.y),
+    8: lambda rule, case: model.line_inverse(rule, case.a, case.x, case.y),
+    9: lambda rule, case: model.line_allowance(rule, case.a, case.y),
+    10: lambda rule, case: model.joint_forward(rule, case.a, case.b, case.x, case.y),
+    11: lambda rule, case: model.joint_inverse(rule, case.a, case.b, case.x, case.y),
+    12: lambda rule, case: model.joint_allowance(rule, case.a, case.b, case.y),
+}
+
+
+def tally_rules(number, case):
+    """Which of rules 1 and 2 would not give what rule 0 gives."""
+    if number not in BY_RULE:
+        return []
+    by_rule = [BY_RULE[number](rule, case) for rule in model.RULES]
+    return [f"rule {rule}" for rule in (1, 2) if by_rule[rule] != by_rule[0]]
+
+
+def print_tally(name, tally, rules, count, size):
     answers = " ".join(f"{number}:{tally[number]}" for number in sorted(tally))
-    print(f"{name} {count} cases, {size // max(1, count)} bytes a case, {answers}",
+    apart = "".join(f", {rule} differs in {rules[rule]}" for rule in sorted(rules))
+    print(f"{name} {count} cases, {size // max(1, count)} bytes a case, {answers}{apart}",
           file=sys.stderr)
 
 
 def write_stream(name, seed, count, out, tallied):
-    tally, size = Counter(), 0
+    number, tally, rules, size = CALLS[name][0], Counter(), Counter(), 0
     for case in cases_of(name, seed, count):
-        size += out.write(packed(words_of(CALLS[name][0], case)))
-        tally[tally_key(name, case)] += 1
+        size += out.write(packed(words_of(number, case)))
+        if tallied:
+            tally[tally_key(name, case)] += 1
+            rules.update(tally_rules(number, case))
     if tallied:
-        print_tally(name, tally, count, size)
+        print_tally(name, tally, rules, count, size)
 
 
 def main(arguments):

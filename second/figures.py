@@ -1,6 +1,7 @@
-"""The figures a to h and the worked example of document 01, and the laws tried
-at random. Usage: python3 second/figures.py [SEED [COUNT]]. One line for each
-group; exit code 1 on any failure."""
+"""The figures a to h and the worked example of document 01, figures of its
+requests, and the laws tried at random, each with each rule.
+Usage: python3 second/figures.py [SEED [COUNT]]. One line for each group; exit
+code 1 on any failure."""
 
 import random
 import sys
@@ -16,6 +17,48 @@ SHEET_B = [2, 2, 2, 1, 1, 2048, 3, 1, -1, -6144]
 SHEET_C = [3, 1, 1, 2, 0, 1]
 SHEET_D = [3, 1, 4, 1, 1, -1, 1, 4096, 1024]
 SHEET_E = [2, 1, 2, 1, 1, 4096]
+
+# Request R-5, worked out by hand: what rules 0, 1 and 2 give.
+
+# A sum of so many halves and so many units.
+HALVES = [
+    (0, -1, [0, -1, 0]), (0, 0, [0, 0, 0]), (0, 1, [0, 0, 0]),
+    (1, -1, [0, 0, 0]), (1, 0, [1, 0, 0]), (1, 1, [1, 0, 1]),
+    (3, -1, [1, 1, 1]), (3, 0, [2, 1, 2]), (3, 1, [2, 1, 2]),
+    (5, -1, [2, 2, 2]), (5, 0, [3, 2, 2]), (5, 1, [3, 2, 3]),
+    (-1, -1, [-1, -1, -1]), (-1, 0, [0, -1, 0]), (-1, 1, [0, -1, 0]),
+    (-3, -1, [-2, -2, -2]), (-3, 0, [-1, -2, -2]), (-3, 1, [-1, -2, -1]),
+    (-5, -1, [-3, -3, -3]), (-5, 0, [-2, -3, -2]), (-5, 1, [-2, -3, -2]),
+]
+
+# Sheet a on a block, and on both sides of one. With its own odd number inside
+# the rounding, rule 2 would end the first rows in 2, 0, 2 and 0.
+LINES = [
+    ([1, 5], [[1, 6], [1, 5], [1, 5]]),
+    ([3, 5], [[3, 7], [3, 6], [3, 7]]),
+    ([-1, 5], [[-1, 5], [-1, 4], [-1, 5]]),
+    ([-3, 5], [[-3, 4], [-3, 3], [-3, 3]]),
+]
+BLOCKS = [
+    ([1, 1, 0, 0], [[1, 2, 1, 1], [1, 1, 0, 0], [1, 1, 0, 1]]),
+    ([1, -1, 0, 0], [[1, 0, 1, 0], [1, -1, 0, -1], [1, -1, 0, 0]]),
+    ([3, 1, 0, 0], [[3, 3, 2, 1], [3, 2, 1, 1], [3, 3, 2, 1]]),
+    ([-1, 1, 0, 0], [[-1, 1, 0, 0], [-1, 0, -1, 0], [-1, 1, 0, 0]]),
+]
+ALLOWANCES = [
+    (SHEET_A, [[0, 2048], [0, 4096], [0, 2048]]),
+    (SHEET_B, [[5120, 2048], [10240, 4096], [5120, 2048]]),
+    (SHEET_D, [[0, 2048, 0], [0, 4096, 0], [0, 2048, 0]]),
+    (SHEET_E, [[0, 0], [0, 0], [0, 0]]),
+]
+
+# The smallest case in which a share of 2048 is too little for rule 1.
+SHEET_ALMOST = [2, 1, 2, 1, 1, 4095]
+
+# A half of the first number is added and taken off again, four times, so the
+# exact product of (1, 0) is (1, 0). Each pair of factors adds 1, -1 or 0.
+SHEET_DRIFT = [2, 8] + [2, 1, 1, 2048, 2, 1, 1, -2048] * 4
+DRIFT = [[1, 4], [1, -4], [1, 0]]
 
 
 class Group:
@@ -41,12 +84,12 @@ class Group:
         return not self.failures
 
 
-def run(sheet, x):
-    return model.line_forward(sheet, x, [9] * len(x))
+def run(sheet, x, rule=model.NEAREST):
+    return model.line_forward(rule, sheet, x, [9] * len(x))
 
 
-def allowance(sheet):
-    return model.line_allowance(sheet, [9] * sheet[0])
+def allowance(sheet, rule=model.NEAREST):
+    return model.line_allowance(rule, sheet, [9] * sheet[0])
 
 
 def unhex(text):
@@ -67,7 +110,7 @@ def figure_a(group):
 
 def figure_b(group):
     group.same(run(SHEET_B, [3, 5]), (OK, [-7, -7]))
-    group.same(model.line_inverse(SHEET_B, [-7, -7], [9, 9]), (OK, [3, 5]))
+    group.same(model.line_inverse(model.NEAREST, SHEET_B, [-7, -7], [9, 9]), (OK, [3, 5]))
 
 
 def figure_c(group):
@@ -87,7 +130,7 @@ def figure_e(group):
 
 
 def figure_f(group):
-    got = model.joint_forward(SHEET_A, SHEET_A, [1, 1, 0, 0], [9] * 4)
+    got = model.joint_forward(model.NEAREST, SHEET_A, SHEET_A, [1, 1, 0, 0], [9] * 4)
     group.same(got, (OK, [1, 2, 1, 1]))
 
 
@@ -123,6 +166,75 @@ def request_2(group):
     group.holds(far_elements(model.FIRST_PRINTING) > 0, "the first printing passes")
 
 
+def line_at(halves, units):
+    """A sheet and a block whose second number, 7, has that sum at scale 4096."""
+    s = 2048 * halves + units
+    return [2, 1, 2, 1, 1, abs(s)], [1 if s > 0 else -1, 7]
+
+
+def block_at(halves, units):
+    """Sheets and a block whose last number, 7, has that sum at scale 16777216:
+    the units from (0,0) by two entries, the halves from (0,1) by one."""
+    return [2, 1, 2, 1, 1, 1], [2, 1, 2, 1, 1, -1], [-units, 2048 * halves, 0, 7]
+
+
+def rule_halves(group):
+    for halves, units, wanted in HALVES:
+        sheet, x = line_at(halves, units)
+        col, row, block = block_at(halves, units)
+        for rule in model.RULES:
+            about = (halves, units, rule)
+            group.same(model.R(rule, 2048 * halves + units), wanted[rule], about)
+            group.same(model.R2(rule, 8388608 * halves + units), wanted[rule], about)
+            group.same(run(sheet, x, rule), (OK, [x[0], 7 + wanted[rule]]), about)
+            answer, y = model.joint_forward(rule, col, row, block, [9] * 4)
+            group.same((answer, y[3]), (OK, 7 + wanted[rule]), about)
+
+
+def rule_runs(group):
+    for rule in model.RULES:
+        for x, wanted in LINES:
+            group.same(run(SHEET_A, x, rule), (OK, wanted[rule]))
+            group.same(model.line_inverse(rule, SHEET_A, wanted[rule], [9, 9]), (OK, x))
+        for x, wanted in BLOCKS:
+            group.same(model.joint_forward(rule, SHEET_A, SHEET_A, x, [9] * 4), (OK, wanted[rule]))
+            group.same(model.joint_inverse(rule, SHEET_A, SHEET_A, wanted[rule], [9] * 4), (OK, x))
+
+
+def rule_drift(group):
+    e, d = model.line_exact(SHEET_DRIFT, [1, 0])
+    group.same(e, [d, 0])
+    for rule in model.RULES:
+        group.same(run(SHEET_DRIFT, [1, 0], rule), (OK, DRIFT[rule]))
+
+
+def rule_allowances(group):
+    for rule in model.RULES:
+        for sheet, wanted in ALLOWANCES:
+            group.same(allowance(sheet, rule), (OK, wanted[rule]))
+        share = [2048, 4096, 2048][rule]
+        group.same(model.joint_allowance(rule, SHEET_A, SHEET_A, [9] * 4), (OK, [0, share, share, share]))
+    group.same(run(SHEET_ALMOST, [1, 0], model.FLOOR), (OK, [1, 0]))
+    group.same(allowance(SHEET_ALMOST, model.FLOOR), (OK, [0, 4096]))
+    e, d = model.line_exact(SHEET_ALMOST, [1, 0])
+    off = 4096 * abs(d * 0 - e[1])
+    group.holds(d * 2048 < off <= d * 4096, "a share of 2048 is enough")
+
+
+def rule_refusals(group):
+    """16 comes before all others: here no sheet is one, and no length fits."""
+    for rule in generate.WRONG_RULES:
+        refused = ((16, 0, 0), [9])
+        group.same(model.line_forward(rule, [], [], [9]), refused)
+        group.same(model.line_inverse(rule, [], [], [9]), refused)
+        group.same(model.line_allowance(rule, [], [9]), refused)
+        group.same(model.joint_forward(rule, [], [], [], [9]), refused)
+        group.same(model.joint_inverse(rule, [], [], [], [9]), refused)
+        group.same(model.joint_allowance(rule, [], [], [9]), refused)
+        group.same(model.line_strip(rule, [], [1], [9], [], model.line_forward), refused + ([],))
+        group.same(model.joint_strip(rule, [], [], [1], [9], [], model.joint_inverse), refused + ([],))
+
+
 def figure_h(group):
     group.same(model.encode([16384]), unhex("80 80 02"))
     group.same(model.read(unhex("84 00"), [9]), ((14, 0, 0), [9]))
@@ -142,28 +254,29 @@ def limits(group):
 
 # ---------------------------------------------------------------------------
 # Laws. Each is tried on a line (row is None) and on a pair, by one shape of
-# run: run_forward(recipe, x), where a recipe is (column sheet, row sheet).
+# run: run_forward(rule, recipe, x), where a recipe is (column sheet, row sheet).
+# One rule holds throughout a law.
 
 
-def run_forward(recipe, x):
+def run_forward(rule, recipe, x):
     col, row = recipe
     if row is None:
-        return model.line_forward(col, x, [9] * len(x))
-    return model.joint_forward(col, row, x, [9] * len(x))
+        return model.line_forward(rule, col, x, [9] * len(x))
+    return model.joint_forward(rule, col, row, x, [9] * len(x))
 
 
-def run_inverse(recipe, y):
+def run_inverse(rule, recipe, y):
     col, row = recipe
     if row is None:
-        return model.line_inverse(col, y, [9] * len(y))
-    return model.joint_inverse(col, row, y, [9] * len(y))
+        return model.line_inverse(rule, col, y, [9] * len(y))
+    return model.joint_inverse(rule, col, row, y, [9] * len(y))
 
 
-def run_allowance(recipe, length):
+def run_allowance(rule, recipe, length):
     col, row = recipe
     if row is None:
-        return model.line_allowance(col, [9] * length)
-    return model.joint_allowance(col, row, [9] * length)
+        return model.line_allowance(rule, col, [9] * length)
+    return model.joint_allowance(rule, col, row, [9] * length)
 
 
 def exact(recipe, x):
@@ -177,61 +290,61 @@ def block_length(recipe):
 
 
 def some_line(rng):
-    return (generate.numbers_of(generate.some_draft(rng)), None)
+    return (generate.numbers_of(generate.ruled_draft(rng)), None)
 
 
 def some_pair(rng):
-    column, row = generate.matching_pair(rng)
+    column, row = generate.ruled_pair(rng)
     return (generate.numbers_of(column), generate.numbers_of(row))
 
 
-def edge_run(rng, recipe, inverse):
+def edge_run(rng, rule, recipe, inverse):
     """A block that meets the bound at some stage."""
     col, row = recipe
     if row is None:
-        return generate.line_block_to_edge(rng, col, inverse)
-    return generate.joint_block_to_edge(rng, col, row, inverse)
+        return generate.line_block_to_edge(rng, rule, col, inverse)
+    return generate.joint_block_to_edge(rng, rule, col, row, inverse)
 
 
-def some_input(rng, recipe, inverse=False):
+def some_input(rng, rule, recipe, inverse=False):
     if generate.chance(rng, 0.3):
-        return edge_run(rng, recipe, inverse)
+        return edge_run(rng, rule, recipe, inverse)
     return generate.some_block(rng, block_length(recipe))
 
 
-def round_trip_law(rng, recipe, group):
+def round_trip_law(rng, rule, recipe, group):
     """The inverse undoes an accepted forward run."""
-    x = some_input(rng, recipe)
-    answer, y = run_forward(recipe, x)
+    x = some_input(rng, rule, recipe)
+    answer, y = run_forward(rule, recipe, x)
     if answer == OK:
-        group.same(run_inverse(recipe, y), (OK, x), recipe)
+        group.same(run_inverse(rule, recipe, y), (OK, x), recipe)
 
 
-def trip_round_law(rng, recipe, group):
+def trip_round_law(rng, rule, recipe, group):
     """The forward run undoes an accepted inverse run."""
-    y = some_input(rng, recipe, True)
-    answer, x = run_inverse(recipe, y)
+    y = some_input(rng, rule, recipe, True)
+    answer, x = run_inverse(rule, recipe, y)
     if answer == OK:
-        group.same(run_forward(recipe, x), (OK, y), recipe)
+        group.same(run_forward(rule, recipe, x), (OK, y), recipe)
 
 
-def allowance_law(rng, recipe, group):
+def allowance_law(rng, rule, recipe, group):
     """4096·|D·y - E| ≤ D·b."""
-    x = some_input(rng, recipe)
-    answer, y = run_forward(recipe, x)
-    allowed, b = run_allowance(recipe, len(x))
+    x = some_input(rng, rule, recipe)
+    answer, y = run_forward(rule, recipe, x)
+    allowed, b = run_allowance(rule, recipe, len(x))
     if answer == OK and allowed == OK:
         e, d = exact(recipe, x)
         kept = all(4096 * abs(d * y[m] - e[m]) <= d * b[m] for m in range(len(x)))
         group.holds(kept, (recipe, x))
 
 
-def difference_law(rng, recipe, group):
+def difference_law(rng, rule, recipe, group):
     """4096·|F(x) - F(z) - F(x-z)| ≤ 3·b."""
-    x, z = some_input(rng, recipe), some_input(rng, recipe)
+    x, z = some_input(rng, rule, recipe), some_input(rng, rule, recipe)
     apart = [p - q for p, q in zip(x, z)]
-    runs = [run_forward(recipe, block) for block in (x, z, apart)]
-    allowed, b = run_allowance(recipe, len(x))
+    runs = [run_forward(rule, recipe, block) for block in (x, z, apart)]
+    allowed, b = run_allowance(rule, recipe, len(x))
     if allowed == OK and all(answer == OK for answer, _ in runs):
         (_, fx), (_, fz), (_, fd) = runs
         kept = all(
@@ -261,7 +374,7 @@ def factor_starts(sheet):
     return starts
 
 
-def cut_law(rng, recipe, group):
+def cut_law(rng, rule, recipe, group):
     """The whole run is the run of the first part, then of the second; a refusal
     of the second part has the first part's count added to its stage."""
     col, row = recipe
@@ -270,14 +383,14 @@ def cut_law(rng, recipe, group):
     position = rng.randint(1, col[1] - 1)
     cut_col = cut_sheet(col, position)
     cut_row = (None, None) if row is None else cut_sheet(row, position)
-    x = some_input(rng, recipe)
-    answer, between = run_forward((cut_col[0], cut_row[0]), x)
+    x = some_input(rng, rule, recipe)
+    answer, between = run_forward(rule, (cut_col[0], cut_row[0]), x)
     after = [9] * len(x)
     if answer == OK:
-        answer, after = run_forward((cut_col[1], cut_row[1]), between)
+        answer, after = run_forward(rule, (cut_col[1], cut_row[1]), between)
         if answer[NUMBER] == 11:
             answer = (11, 0, answer[PLACE] + position)
-    group.same((answer, after), run_forward(recipe, x), (recipe, x))
+    group.same((answer, after), run_forward(rule, recipe, x), (recipe, x))
 
 
 def encoding_law(rng, group):
@@ -304,15 +417,15 @@ def decoding_law(rng, group):
 LAWS = [round_trip_law, trip_round_law, allowance_law, difference_law, cut_law]
 FIGURES = [
     figure_a, figure_b, figure_c, figure_d, figure_e, figure_f, figure_g, figure_h, request_2,
-    worked_example, limits,
+    rule_halves, rule_runs, rule_drift, rule_allowances, rule_refusals, worked_example, limits,
 ]
 
 
-def try_law(law, kind, some_recipe, seed, count):
-    group = Group(f"{law.__name__} {kind}")
+def try_law(law, kind, some_recipe, rule, seed, count):
+    group = Group(f"{law.__name__} {kind} rule {rule}")
     rng = random.Random(f"{group.name} {seed}")
     for _ in range(count):
-        law(rng, some_recipe(rng), group)
+        law(rng, rule, some_recipe(rng), group)
     return group
 
 
@@ -330,8 +443,9 @@ def all_groups(seed, count):
         figure(group)
         yield group
     for law in LAWS:
-        yield try_law(law, "line", some_line, seed, count)
-        yield try_law(law, "joint", some_pair, seed, count)
+        for rule in model.RULES:
+            yield try_law(law, "line", some_line, rule, seed, count)
+            yield try_law(law, "joint", some_pair, rule, seed, count)
     for law in (encoding_law, decoding_law):
         yield try_code_law(law, seed, count)
 

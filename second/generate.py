@@ -34,6 +34,32 @@ def chance(rng, share):
 
 
 # ---------------------------------------------------------------------------
+# Rules
+
+# Numbers of 32 bits that are no rule: just past the last, a refusal's number,
+# what a rule is if only some of its bits are looked at, the largest.
+WRONG_RULES = [3, 4, 16, 255, 256, 65536, 65537, I32_MAX, I32_MAX + 1, 2 ** 32 - 2, 2 ** 32 - 1]
+WRONG_RULE = 0.04
+
+# How often a run's sheets are such that the rules part.
+HALF = 0.45
+
+
+def true_rule(rng):
+    return rng.choice(model.RULES)
+
+
+def some_rule(rng):
+    """A rule, or at times a number that is none."""
+    return rng.choice(WRONG_RULES) if chance(rng, WRONG_RULE) else true_rule(rng)
+
+
+def nearest_if_wrong(rule):
+    """A rule by which a block for the call is worked out."""
+    return rule if rule in model.RULES else model.NEAREST
+
+
+# ---------------------------------------------------------------------------
 # Valid sheets
 
 
@@ -47,8 +73,22 @@ def whole_entry(rng):
 
 
 def half_entry(rng):
-    """A multiple of 2048: sums fall on halves, where rounding up must show."""
+    """A multiple of 2048: sums fall on halves, where the rules part."""
     return 2048 * rng.randint(-8, 8)
+
+
+def odd_half_entry(rng):
+    """An odd multiple of 2048, or 0: half of the sums fall on halves."""
+    return rng.choice([-6144, -2048, -2048, 2048, 2048, 6144, 0, 0, 0])
+
+
+def small_whole_entry(rng):
+    return 4096 * rng.choice([-1, 0, 0, 0, 1])
+
+
+def rare_half_entry(rng):
+    """Mostly 0: long chains stay within the bound and fall on halves too."""
+    return rng.choice([-2048, 2048]) if chance(rng, 0.1) else 0
 
 
 def extreme_entry(rng):
@@ -77,7 +117,7 @@ ENTRY_MAKERS = [
     uniform_entry, whole_entry, half_entry, half_entry, extreme_entry,
     sparse_entry, faint_entry, mixed_entry,
 ]
-LONG_ENTRY_MAKERS = [faint_entry, faint_entry, sparse_entry, mixed_entry]
+LONG_ENTRY_MAKERS = [faint_entry, faint_entry, rare_half_entry, sparse_entry, mixed_entry]
 
 
 def plain_sign(rng):
@@ -152,6 +192,21 @@ def steep_draft(rng):
     """A sheet whose allowances or blocks may pass their limit at a late stage."""
     kinds = [rng.choice([1, 2, 3, 4, 4, 4]) for _ in range(rng.randint(5, 14))]
     return sheet_draft(rng, rng.randint(2, 5), kinds, steep_entry)
+
+
+def half_kinds(rng):
+    """Kinds with sums, a permutation at times."""
+    return [rng.choice([1, 2, 2, 2, 3, 3, 3, 4, 4, 4]) for _ in range(rng.randint(1, 4))]
+
+
+def half_draft(rng):
+    """A sheet under which the rules part: most blocks have sums at halves."""
+    return sheet_draft(rng, rng.randint(2, 6), half_kinds(rng), odd_half_entry)
+
+
+def ruled_draft(rng):
+    """Any sheet, or one under which the rules part."""
+    return half_draft(rng) if chance(rng, HALF) else some_draft(rng)
 
 
 # ---------------------------------------------------------------------------
@@ -283,6 +338,21 @@ def steep_pair(rng):
     return first, sheet_draft(rng, rng.randint(1, 3), kinds, rng.choice([steep_entry, half_entry]))
 
 
+def half_pair(rng):
+    """A pair under which the rules part. Halves in both sheets give quarters,
+    so mostly one of them has whole entries."""
+    kinds = half_kinds(rng)
+    entries = rng.choice([(odd_half_entry, small_whole_entry), (small_whole_entry, odd_half_entry),
+                          (odd_half_entry, odd_half_entry)])
+    first, second = [sheet_draft(rng, rng.randint(1, 4), kinds, entry) for entry in entries]
+    return first, second
+
+
+def ruled_pair(rng):
+    """Any pair, or one under which the rules part."""
+    return half_pair(rng) if chance(rng, HALF) else matching_pair(rng)
+
+
 def heavy_pair(rng):
     """Orders 16 with entries at their limit and of one sign: the largest sums."""
     kinds = [rng.choice([2, 3, 4]) for _ in range(rng.randint(1, 3))]
@@ -330,6 +400,11 @@ def small(rng):
     return rng.randint(-300, 300)
 
 
+def small_odd(rng):
+    """Next to a half entry this is a sum at a half."""
+    return 2 * rng.randint(-40, 40) + 1
+
+
 def near_bound(rng):
     return rng.choice([-1, 1]) * (16777215 - rng.choice([0, 0, 1, 2, rng.randint(0, 5000)]))
 
@@ -341,7 +416,7 @@ def scaled_by(bits):
 
 def some_block(rng, length):
     """A block whose numbers are of one size, at times with one edge among them."""
-    maker = rng.choice([tiny, tiny, small, scaled_by(rng.randint(4, 24)), near_bound])
+    maker = rng.choice([tiny, tiny, small, small_odd, scaled_by(rng.randint(4, 24)), near_bound])
     block = [maker(rng) for _ in range(length)]
     if length and chance(rng, 0.12):
         block[rng.randrange(length)] = rng.choice(BOUND_EDGES)
@@ -378,7 +453,7 @@ def block_to_edge(rng, length, back):
     return block if within(block, I32_MAX) else some_block(rng, length)
 
 
-def line_block_to_edge(rng, sheet, inverse):
+def line_block_to_edge(rng, rule, sheet, inverse):
     """A block for a line run that meets the bound at some stage."""
     recipe = model.recipe_of(sheet)
     stage = edge_stage(rng, len(recipe.factors))
@@ -386,16 +461,16 @@ def line_block_to_edge(rng, sheet, inverse):
     def back(block):
         if inverse:
             for factor in recipe.factors[len(recipe.factors) - stage:]:
-                block = model.apply_line(factor, block)
+                block = model.apply_line(rule, factor, block)
         else:
             for factor in reversed(recipe.factors[:stage]):
-                block = model.undo_line(factor, block)
+                block = model.undo_line(rule, factor, block)
         return block
 
     return block_to_edge(rng, recipe.order, back)
 
 
-def joint_block_to_edge(rng, col, row, inverse):
+def joint_block_to_edge(rng, rule, col, row, inverse):
     """The same in two dimensions."""
     a, b = model.pair_of(col, row)
     pairs = list(zip(a.factors, b.factors))
@@ -405,10 +480,10 @@ def joint_block_to_edge(rng, col, row, inverse):
         block = model.rows_of(block, a.order, b.order)
         if inverse:
             for fa, fb in pairs[len(pairs) - stage:]:
-                block = model.apply_joint(fa, fb, block)
+                block = model.apply_joint(rule, fa, fb, block)
         else:
             for fa, fb in reversed(pairs[:stage]):
-                block = model.undo_joint(fa, fb, block)
+                block = model.undo_joint(rule, fa, fb, block)
         return model.flat(block)
 
     return block_to_edge(rng, a.order * b.order, back)
@@ -428,18 +503,19 @@ def sheet_of(n, factors):
     return [n, len(factors)] + [number for factor in factors for number in factor]
 
 
-def limit_sheet(rng):
+def limit_sheet(rng, rule):
     """A sheet whose last factor brings an allowance to the limit or one past
-    it. Rows 1 and 2 grow by turns; row 0 stays at 2048 for the last few units."""
+    it. Rows 1 and 2 grow by turns; row 0 stays at one rounding's share for the
+    last few units."""
     n = 4
     target = model.ALLOWANCE_LIMIT + rng.choice([0, 1])
     factors = [single_row(0, n, [0, 1, 1, 1])]
     while True:
-        b = model.line_stages_allowance(model.recipe_of(sheet_of(n, factors)))
+        b = model.line_stages_allowance(rule, model.recipe_of(sheet_of(n, factors)))
         for row, other in ((1, 2), (2, 1)):
             # An entry is at most 4, so this is when one factor can fill the gap.
             if b[row] + 4 * b[other] > target:
-                return sheet_of(n, factors + [last_factor(target, row, b)])
+                return sheet_of(n, factors + [last_factor(target, row, b, model.SHARES[rule])])
         factors.append(growing_factor(rng, n))
 
 
@@ -451,11 +527,11 @@ def growing_factor(rng, n):
     return single_row(row, n, entries)
 
 
-def last_factor(target, row, b):
+def last_factor(target, row, b, share):
     """Entries of a row whose sum fills the gap: the largest allowance first,
     what is left of the gap with the next. The rounding share counts as well."""
     n = len(b)
-    gap = (target - b[row] - model.SHARE) * model.SCALE
+    gap = (target - b[row] - share) * model.SCALE
     entries = [0] * n
     for k in sorted(range(n), key=lambda k: -b[k]):
         if k != row and b[k] > 0:

@@ -20,9 +20,16 @@ PROGRAM_LIMIT = 16384
 
 SCALE = 4096  # an entry e means e/4096
 SCALE2 = SCALE * SCALE  # 16777216, the scale of a product of two entries
-SHARE = 2048  # what one rounding adds to an allowance, in 1/4096
 
 PERMUTATION, LOWER, UPPER, SINGLE_ROW = 1, 2, 3, 4
+
+# Request R-5: "0 as today, 1 floor, 2 nearest with halves to even".
+NEAREST, FLOOR, EVEN = 0, 1, 2
+RULES = (NEAREST, FLOOR, EVEN)
+
+# What one rounding adds to an allowance, in 1/4096: "the 2048 added for
+# rounding is 4096 under rule 1".
+SHARES = {NEAREST: 2048, FLOOR: 4096, EVEN: 2048}
 
 
 class Refused(Exception):
@@ -152,9 +159,22 @@ def match(a, b):
 # Factor rules in one dimension
 
 
-def R(s):
-    """"The floor of (s + 2048)/4096: nearest, halves upward"."""
-    return (s + 2048) // 4096
+def rounded(rule, s, scale):
+    """s/scale as a whole number, by a rule. The quotient is a floor, also below
+    zero. Rule 2 takes the even quotient, whatever the sum is added to then."""
+    if rule == NEAREST:
+        return (s + scale // 2) // scale
+    quotient, over = s // scale, s % scale
+    if rule == FLOOR or 2 * over < scale:
+        return quotient
+    if 2 * over > scale:
+        return quotient + 1
+    return quotient if quotient % 2 == 0 else quotient + 1
+
+
+def R(rule, s):
+    """Rule 0: "the floor of (s + 2048)/4096: nearest, halves upward"."""
+    return rounded(rule, s, SCALE)
 
 
 def line_sum(factor, m, x):
@@ -166,15 +186,15 @@ def line_sum(factor, m, x):
     return total
 
 
-def apply_line(factor, x):
+def apply_line(rule, factor, x):
     """The vector after the factor."""
     n = len(x)
     if factor.kind == PERMUTATION:
         return [x[factor.places[i]] for i in range(n)]
-    return [factor.signs[m] * x[m] + R(line_sum(factor, m, x)) for m in range(n)]
+    return [factor.signs[m] * x[m] + R(rule, line_sum(factor, m, x)) for m in range(n)]
 
 
-def undo_line(factor, y):
+def undo_line(rule, factor, y):
     """The vector before the factor, each sum over recovered numbers only."""
     n = len(y)
     x = [None] * n
@@ -183,7 +203,7 @@ def undo_line(factor, y):
             x[factor.places[i]] = y[i]
         return x
     for m in line_recovery(factor, n):
-        x[m] = factor.signs[m] * (y[m] - R(line_sum(factor, m, x)))
+        x[m] = factor.signs[m] * (y[m] - R(rule, line_sum(factor, m, x)))
     return x
 
 
@@ -203,20 +223,20 @@ def check_bound(numbers, stage):
             raise Refused(11, stage)
 
 
-def line_stages_forward(recipe, x):
+def line_stages_forward(rule, recipe, x):
     """Stage 0 is the input, stage s the vector after s factors."""
     check_bound(x, 0)
     for stage, factor in enumerate(recipe.factors, 1):
-        x = apply_line(factor, x)
+        x = apply_line(rule, factor, x)
         check_bound(x, stage)
     return x
 
 
-def line_stages_inverse(recipe, y):
+def line_stages_inverse(rule, recipe, y):
     """Stage s is the vector after s factors undone, the last factor first."""
     check_bound(y, 0)
     for stage, factor in enumerate(reversed(recipe.factors), 1):
-        y = undo_line(factor, y)
+        y = undo_line(rule, factor, y)
         check_bound(y, stage)
     return y
 
@@ -225,9 +245,9 @@ def line_stages_inverse(recipe, y):
 # Two dimensions
 
 
-def R2(s):
-    """"The floor of (s + 8388608)/16777216"."""
-    return (s + 8388608) // 16777216
+def R2(rule, s):
+    """Rule 0: "the floor of (s + 8388608)/16777216"."""
+    return rounded(rule, s, SCALE2)
 
 
 def rows_of(block, n1, n2):
@@ -250,21 +270,21 @@ def joint_sum(a, b, i, j, x):
     return total
 
 
-def apply_joint(a, b, x):
+def apply_joint(rule, a, b, x):
     """One stage: A·X·B-transposed with one rounding for each element."""
     n1, n2 = len(x), len(x[0])
     if a.kind == PERMUTATION:
         return [[x[a.places[i]][b.places[j]] for j in range(n2)] for i in range(n1)]
     return [
         [
-            a.signs[i] * b.signs[j] * x[i][j] + R2(joint_sum(a, b, i, j, x))
+            a.signs[i] * b.signs[j] * x[i][j] + R2(rule, joint_sum(a, b, i, j, x))
             for j in range(n2)
         ]
         for i in range(n1)
     ]
 
 
-def undo_joint(a, b, y):
+def undo_joint(rule, a, b, y):
     """The block before one stage, in the recovery order."""
     n1, n2 = len(y), len(y[0])
     x = [[None] * n2 for _ in range(n1)]
@@ -274,7 +294,7 @@ def undo_joint(a, b, y):
                 x[a.places[i]][b.places[j]] = y[i][j]
         return x
     for i, j in joint_recovery(a, b, n1, n2):
-        x[i][j] = a.signs[i] * b.signs[j] * (y[i][j] - R2(joint_sum(a, b, i, j, x)))
+        x[i][j] = a.signs[i] * b.signs[j] * (y[i][j] - R2(rule, joint_sum(a, b, i, j, x)))
     return x
 
 
@@ -293,21 +313,21 @@ def joint_recovery(a, b, n1, n2):
     return in_neither + row_r + column_q + [(r, q)]
 
 
-def joint_stages_forward(a, b, x):
+def joint_stages_forward(rule, a, b, x):
     """The stages of a joint run, both recipes' factors in step."""
     check_bound(flat(x), 0)
     for stage, (fa, fb) in enumerate(zip(a.factors, b.factors), 1):
-        x = apply_joint(fa, fb, x)
+        x = apply_joint(rule, fa, fb, x)
         check_bound(flat(x), stage)
     return x
 
 
-def joint_stages_inverse(a, b, y):
+def joint_stages_inverse(rule, a, b, y):
     """The stages of a joint inverse run, the last factors first."""
     check_bound(flat(y), 0)
     pairs = list(zip(a.factors, b.factors))
     for stage, (fa, fb) in enumerate(reversed(pairs), 1):
-        y = undo_joint(fa, fb, y)
+        y = undo_joint(rule, fa, fb, y)
         check_bound(flat(y), stage)
     return y
 
@@ -321,9 +341,9 @@ def ceiling(s, scale):
     return -((-s) // scale)
 
 
-def allow_line(factor, b):
+def allow_line(rule, factor, b):
     """"b(m) + ceiling of (sum of |a(m,k)|·b(k) / 4096), plus 2048 if any entry
-    of that row off the diagonal is no multiple of 4096"."""
+    of that row off the diagonal is no multiple of 4096"; the 2048 by the rule."""
     n = len(b)
     if factor.kind == PERMUTATION:
         return [b[factor.places[i]] for i in range(n)]
@@ -335,12 +355,12 @@ def allow_line(factor, b):
                 entry = factor.matrix[m][k]
                 total += abs(entry) * b[k]
                 if entry % SCALE != 0:
-                    share = SHARE
+                    share = SHARES[rule]
         after.append(b[m] + ceiling(total, SCALE) + share)
     return after
 
 
-def allow_joint(fa, fb, b):
+def allow_joint(rule, fa, fb, b):
     """The same with |A(i,l)|·|B(j,k)|·b(l,k) over all (l,k) other than (i,j),
     a diagonal sign counting as +-4096, both in the sum and in the products."""
     n1, n2 = len(b), len(b[0])
@@ -356,7 +376,7 @@ def allow_joint(fa, fb, b):
                         product = fa.matrix[i][l] * fb.matrix[j][k]
                         total += abs(product) * b[l][k]
                         if product % SCALE2 != 0:
-                            share = SHARE
+                            share = SHARES[rule]
             after[i][j] = b[i][j] + ceiling(total, SCALE2) + share
     return after
 
@@ -367,20 +387,20 @@ def check_allowance(allowances, stage):
         raise Refused(13, stage)
 
 
-def line_stages_allowance(recipe):
+def line_stages_allowance(rule, recipe):
     """"All allowances start at 0"."""
     b = [0] * recipe.order
     for stage, factor in enumerate(recipe.factors, 1):
-        b = allow_line(factor, b)
+        b = allow_line(rule, factor, b)
         check_allowance(b, stage)
     return b
 
 
-def joint_stages_allowance(a, b):
+def joint_stages_allowance(rule, a, b):
     """The same for a block of n1 rows by n2 numbers."""
     allowances = [[0] * b.order for _ in range(a.order)]
     for stage, (fa, fb) in enumerate(zip(a.factors, b.factors), 1):
-        allowances = allow_joint(fa, fb, allowances)
+        allowances = allow_joint(rule, fa, fb, allowances)
         check_allowance(flat(allowances), stage)
     return allowances
 
@@ -531,6 +551,12 @@ def write(sheet, room):
 # What comes back: the runs and the allowances
 
 
+def check_rule(rule):
+    """"16 for a rule not 0, 1 or 2, place 0, before all others"."""
+    if rule not in RULES:
+        raise Refused(16, 0)
+
+
 def check_lengths(wanted, x, y):
     """10 for the input, then 10 with side 1 for the output."""
     if x is not None and len(x) != wanted:
@@ -539,64 +565,70 @@ def check_lengths(wanted, x, y):
         raise Refused(10, 0, 1)
 
 
-def line_forward(sheet, x, y):
+def line_forward(rule, sheet, x, y):
     """A forward run; "writes the lent output at the end"."""
     try:
+        check_rule(rule)
         recipe = recipe_of(sheet)
         check_lengths(recipe.order, x, y)
-        return accepted(), line_stages_forward(recipe, list(x))
+        return accepted(), line_stages_forward(rule, recipe, list(x))
     except Refused as refused:
         return refused.answer, list(y)
 
 
-def line_inverse(sheet, y_in, out):
+def line_inverse(rule, sheet, y_in, out):
     """An inverse run."""
     try:
+        check_rule(rule)
         recipe = recipe_of(sheet)
         check_lengths(recipe.order, y_in, out)
-        return accepted(), line_stages_inverse(recipe, list(y_in))
+        return accepted(), line_stages_inverse(rule, recipe, list(y_in))
     except Refused as refused:
         return refused.answer, list(out)
 
 
-def line_allowance(sheet, out):
+def line_allowance(rule, sheet, out):
     """The allowances of a recipe; it has no input, so its 10 has side 1."""
     try:
+        check_rule(rule)
         recipe = recipe_of(sheet)
         check_lengths(recipe.order, None, out)
-        return accepted(), line_stages_allowance(recipe)
+        return accepted(), line_stages_allowance(rule, recipe)
     except Refused as refused:
         return refused.answer, list(out)
 
 
-def joint_forward(col, row, x, y):
+def joint_forward(rule, col, row, x, y):
     """A forward run in two dimensions."""
     try:
+        check_rule(rule)
         a, b = pair_of(col, row)
         check_lengths(a.order * b.order, x, y)
         block = rows_of(x, a.order, b.order)
-        return accepted(), flat(joint_stages_forward(a, b, block))
+        return accepted(), flat(joint_stages_forward(rule, a, b, block))
     except Refused as refused:
         return refused.answer, list(y)
 
 
-def joint_inverse(col, row, y_in, out):
+def joint_inverse(rule, col, row, y_in, out):
     """An inverse run in two dimensions."""
     try:
+        check_rule(rule)
         a, b = pair_of(col, row)
         check_lengths(a.order * b.order, y_in, out)
         block = rows_of(y_in, a.order, b.order)
-        return accepted(), flat(joint_stages_inverse(a, b, block))
+        return accepted(), flat(joint_stages_inverse(rule, a, b, block))
     except Refused as refused:
         return refused.answer, list(out)
 
 
-def joint_allowance(col, row, out):
+def joint_allowance(rule, col, row, out):
     """The allowances of a pair of recipes."""
     try:
+        check_rule(rule)
         a, b = pair_of(col, row)
         check_lengths(a.order * b.order, None, out)
-        return accepted(), flat(joint_stages_allowance(a, b))
+        return accepted(), flat(joint_stages_allowance(rule, a, b))
     except Refused as refused:
         return refused.answer, list(out)
 
@@ -605,12 +637,13 @@ def joint_allowance(col, row, out):
 # Request R-1: whole strips
 
 
-def strip(recipes, call, x, out, marks):
+def strip(rule, recipes, call, x, out, marks):
     """Each block's single call, one after another: the answer, the output, the bytes.
 
     recipes() gives the orders or refuses by 1 to 9 or 12; call is the single
     call on a block and its part of the output."""
     try:
+        check_rule(rule)
         size = 1
         for order in recipes():
             size *= order
@@ -628,14 +661,15 @@ def strip(recipes, call, x, out, marks):
     return accepted(), after, numbers
 
 
-def line_strip(sheet, x, out, marks, call):
+def line_strip(rule, sheet, x, out, marks, call):
     """call: line_forward or line_inverse."""
-    return strip(lambda: [recipe_of(sheet).order], lambda v, w: call(sheet, v, w), x, out, marks)
+    return strip(rule, lambda: [recipe_of(sheet).order], lambda v, w: call(rule, sheet, v, w), x, out, marks)
 
 
-def joint_strip(col, row, x, out, marks, call):
+def joint_strip(rule, col, row, x, out, marks, call):
     """call: joint_forward or joint_inverse."""
-    return strip(lambda: [recipe.order for recipe in pair_of(col, row)], lambda v, w: call(col, row, v, w), x, out, marks)
+    return strip(rule, lambda: [recipe.order for recipe in pair_of(col, row)],
+                 lambda v, w: call(rule, col, row, v, w), x, out, marks)
 
 
 # ---------------------------------------------------------------------------
@@ -692,17 +726,17 @@ def split_input(data):
 
 
 def program(data):
-    """The printed text: the forward result, the inverse of that, the allowance;
-    after a refused forward run nothing follows."""
+    """The printed text: the forward result, the inverse of that, the allowance,
+    all by rule 0; after a refused forward run nothing follows."""
     try:
         sheet, block = split_input(data)
     except Refused as refused:
         return result_line("", refused.answer, [])
-    answer, forward = line_forward(sheet, block, [0] * len(block))
+    answer, forward = line_forward(NEAREST, sheet, block, [0] * len(block))
     text = result_line("forward", answer, forward)
     if answer[0] != 0:
         return text
-    answer, back = line_inverse(sheet, forward, [0] * len(block))
+    answer, back = line_inverse(NEAREST, sheet, forward, [0] * len(block))
     text += result_line("back", answer, back)
-    answer, allow = line_allowance(sheet, [0] * len(block))
+    answer, allow = line_allowance(NEAREST, sheet, [0] * len(block))
     return text + result_line("allow", answer, allow)

@@ -1,11 +1,11 @@
 -- THE ANSWER OF A CALL in the turns that the code takes: the sheets, the lengths, then the run itself.
 use mathlib.Core.Bool.{cond}
 use mathlib.Core.List.{List}
-use mathlib.Core.Path.{_≡_, ap, _∙_}
-use Prim.Native.Nat.{ℕ}
-use native.Mathlib.Decide.{ℕ-discrete}
+use mathlib.Core.Path.{_≡_, sym, ap, _∙_}
+use Prim.Native.Nat.{ℕ, _≤_, _<_}
+use native.Mathlib.Decide.{ℕ-discrete, decLe}
 use native.Mathlib.Omega.{arith}
-use borrow.Author.Tests.{eq-eqb, ne-eqb}
+use borrow.Author.Tests.{eq-eqb, ne-eqb, le-leb, lt-leb}
 use lib.Dec.{eqb}
 use lib.IntN.{ℤ}
 use lib.ListN.{length}
@@ -14,7 +14,10 @@ use Rattle.rules.specs.declared.Rule.{Rule}
 use Rattle.rules.specs.Stages.{runForward, runInverse}
 use Rattle.rules.specs.Answers.{accepted, refused, _or-else_}
 use Rattle.rules.specs.Calls.{Gives, reply, Plan, sized, ranAnswer, ranMemory, runReply, forwardCall, inverseCall, allowanceCall}
+use Rattle.rules.specs.Calls.{ruleOf, ruleChecked, ruled}
 use Rattle.laws.specs.AnswersInTurn.{answer-stops, answer-passes, in-turn, reply-stops, reply-passes, ranReply}
+use Rattle.laws.specs.Plans.{under-fine}
+use Rattle.laws.specs.Promises.{forward-none, inverse-none, allowance-none}
 use Rattle.factor.specs.declared.run.Task.{Task}
 use Rattle.factor.specs.declared.run.Task.the-variants.{Forward, Inverse, Allowance}
 use Rattle.factor.specs.declared.run.Run.{Run}
@@ -99,3 +102,30 @@ module _ (r : Run) (p : Plan) (x y : List ℤ) (none : NoneLent (r .task) x) whe
         in-turns (r .task) (r .rule) p x y none
         ∙ reply-passes (p .sheets) (lengthsOf (r .task) (p .size) (length x) (length y) or-else _) _ y e fine
         ∙ reply-passes (lengthsOf (r .task) (p .size) (length x) (length y)) _ _ y d h
+
+-- ---- a call by the number of a rule: 16 comes first, then the call is the one of that rule
+pub ruled-none : (task : Task) (k : ℕ) (p : Plan) (x y : List ℤ) → 2 < k →
+    Gives (refused 16 0 0) y (ruled k (callBy task) p x y)
+unfolding callBy
+ruled-none Forward k p x y h = forward-none k p h x y
+ruled-none Inverse k p x y h = inverse-none k p h x y
+ruled-none Allowance k p x y h = allowance-none k p h y
+
+pub ruled-fine : (task : Task) (k : ℕ) (p : Plan) → ruleChecked k .number ≡ 0 →
+    ruled k (callBy task) p ≡ callBy task (ruleOf k) p
+ruled-fine task k p h = ap (callBy task (ruleOf k)) (under-fine k p h)
+
+-- as the code meets them: a is what the check of the number answered
+module _ (task : Task) (k : ℕ) (p : Plan) (x y : List ℤ) {a : Answer} (e : a ≡ ruleChecked k) where
+  pub rule-refuses : (a .number ≡ 0 → ⊥) → Gives a y (ruled k (callBy task) p x y)
+  rule-refuses h = split (decLe k 2)
+    where
+      split : Dec (k ≤ 2) → Gives a y (ruled k (callBy task) p x y)
+      split (yes l) = absurd (h (rw (e, le-leb k 2 l)))
+      split (no l) =
+          let none : ruleChecked k ≡ refused 16 0 0 = rw (lt-leb k 2 (omega arith)) in
+          rw (e ∙ none) (ruled-none task k p x y (omega arith))
+
+  pub rule-passes : {b : Answer} {m : List ℤ} → a .number ≡ 0 → Gives b m (callBy task (ruleOf k) p x y) →
+      Gives b m (ruled k (callBy task) p x y)
+  rule-passes h g = rw (ruled-fine task k p (ap (λ (z : Answer). z .number) (sym e) ∙ h)) g

@@ -5,17 +5,16 @@ use Prim.Native.Nat.{ℕ, suc, _-_, _≤_, _<_}
 use native.Mathlib.Omega.{arith}
 use lib.IntN.{ℤ}
 use Rattle.rules.specs.declared.Rule.{Rule}
-use Rattle.rules.specs.declared.Rule.the-variants.{Nearest}
 use Rattle.rules.specs.Numbers.{bound, mostAllowance}
 use Rattle.rules.specs.Stages.{Stage, Ran, forward, undo, allow, inside, run, runForward, runInverse, runAllowance}
-use Rattle.rules.specs.Calls.{Reply, Plan, forwardCall, inverseCall, allowanceCall}
+use Rattle.rules.specs.Calls.{Reply, Plan, ruleOf, forwardCall, inverseCall, allowanceCall}
 use Rattle.factor.specs.declared.run.Task.{Task}
 use Rattle.factor.specs.declared.run.Task.the-variants.{Forward, Inverse, Allowance}
 use Rattle.factor.specs.declared.run.Run.{Run}
 
--- a run by the rule of document 01
-abbrev pub byNearest : Task → Run
-byNearest task = record { task = task; rule = Nearest }
+-- a run by the rule of a number
+abbrev pub byNumber : Task → ℕ → Run
+byNumber task k = record { task = task; rule = ruleOf k }
 
 -- whether numbers go back
 unfoldable pub isInverse : Task → Bool

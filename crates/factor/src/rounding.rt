@@ -1,37 +1,71 @@
 // One element of a stage: the sum rounded, the sign, the bound. In 64 bits; each `requires` says that nothing wraps.
 ghost use mathlib.Core.Path.{_≡_};
-ghost use Prim.Native.Nat.{_-_, _/_};
+ghost use Prim.Native.Nat.{_-_, _%_};
 ghost use lib.Dec.{T, leb};
 ghost use lib.IntN.{pos, natAbs, _+ℤ_, _-ℤ_, _*ℤ_};
-ghost use lib.Signed.{nonNeg};
+ghost use lib.Signed.{nonNeg, _≤ℤ_};
 ghost use mir.Syntax.{w64};
 ghost use mir.Val.{SFits};
 ghost use Rattle.whole.specs.Stated.{Sign};
-ghost use Rattle.rules.specs.Numbers.{unit, unit²};
+ghost use Rattle.whole.specs.Diff.{Within};
+ghost use Rattle.rules.specs.Numbers.{unit, unit², bound};
 ghost use Rattle.rules.specs.Stages.{R, Rounds, share, ceiling};
+ghost use Rattle.factor.specs.Rounding.{ruleBy, liftBy, mostRoundable};
 use rules::Rule;
 use rules::Scale;
 
-// "R(s) is the floor of (s + 2048)/4096", also below zero: 4096·r ≤ s + 2048 < 4096·r + 4096. A shift to the right is that
-// floor. So -2048 gives 0 and -2049 gives -1 (`roundings`).
-pub fn round_line(rule: Rule, s: i64) -> i64
-    requires { ⌜ SFits w64 (s +ℤ pos (unit / 2)) × SFits w64 (R rule unit s) ⌝ }
-    ensures { λ r. ⌜ (r ≡ R rule unit s) × Rounds rule unit s r ⌝ }
+// The rule of a sum comes as two tests, whether it is rounded down and whether halves go to the even number (`ruleBy`). An enum
+// goes through memory, where a test goes through a register and can be taken out of a loop.
+
+// 1 of an odd number, 0 of an even one.
+fn odd(q: i64) -> i64
+    requires { ⌜ Within mostRoundable q ⌝ }
+    ensures { λ r. ⌜ r ≡ pos (natAbs q % 2) ⌝ }
 {
-    match rule {
-        Rule::Nearest => return (s + Scale::LINE_HALF) >> Scale::LINE_BITS,
-    }
+    q - 2 * (q >> Scale::PAIR_BITS)
 }
 
-// "R2(s) is the floor of (s + 8388608)/16777216", also below zero: 16777216·r ≤ s + 8388608 < 16777216·r + 16777216.
-// So -8388608 gives 0 and -8388609 gives -1 (`roundings`).
-pub fn round_joint(rule: Rule, s: i64) -> i64
-    requires { ⌜ SFits w64 (s +ℤ pos (unit² / 2)) × SFits w64 (R rule unit² s) ⌝ }
-    ensures { λ r. ⌜ (r ≡ R rule unit² s) × Rounds rule unit² s r ⌝ }
+// What is added to a sum before the floor is taken: a half; nothing; or a half, and less by 1 where the floor q of the sum is
+// even, so that halves stay with it.
+fn lift(down: bool, even: bool, half: i64, q: i64) -> i64
+    requires { ⌜ (pos 1 ≤ℤ half) × Within unit² half × Within mostRoundable q ⌝ }
+    ensures { λ r. ⌜ r ≡ pos (liftBy down even (natAbs half) q) ⌝ }
 {
-    match rule {
-        Rule::Nearest => return (s + Scale::JOINT_HALF) >> Scale::JOINT_BITS,
+    if even {
+        return half - 1 + odd(q);
     }
+    if down {
+        return 0;
+    }
+    half
+}
+
+// R of a line's sum, by the rule. A shift to the right is a floor, also below zero. By rule 0 it is 4096·r ≤ s + 2048 < 4096·r +
+// 4096, so -2048 gives 0 and -2049 gives -1 (`roundings`).
+pub fn round_line(down: bool, even: bool, s: i64) -> i64
+    requires { ⌜ Within mostRoundable s ⌝ }
+    ensures { λ r. ⌜ (r ≡ R (ruleBy down even) unit s) × Rounds (ruleBy down even) unit s r ⌝ }
+{
+    let a = lift(down, even, Scale::LINE_HALF, s >> Scale::LINE_BITS);
+    (s + a) >> Scale::LINE_BITS
+}
+
+// R2 of a rectangle's sum, by the rule, and k: s is that sum and k times 16777216. By rules 0 and 1 nothing need be done about k,
+// which passes through the floor; halves go to what is even without it.
+pub fn round_past(down: bool, even: bool, s: i64, k: i64) -> i64
+    requires { ⌜ Within mostRoundable s × Within bound k ⌝ }
+    ensures { λ r. ⌜ r ≡ k +ℤ R (ruleBy down even) unit² (s -ℤ (pos unit² *ℤ k)) ⌝ }
+{
+    let a = lift(down, even, Scale::JOINT_HALF, (s >> Scale::JOINT_BITS) - k);
+    (s + a) >> Scale::JOINT_BITS
+}
+
+// R2 of a rectangle's sum, by the rule: by rule 0 -8388608 gives 0 and -8388609 gives -1 (`roundings`).
+pub fn round_joint(down: bool, even: bool, s: i64) -> i64
+    requires { ⌜ Within mostRoundable s ⌝ }
+    ensures { λ r. ⌜ (r ≡ R (ruleBy down even) unit² s) × Rounds (ruleBy down even) unit² s r ⌝ }
+{
+    round_past(down, even, s, 0)
 }
 
 // What one rounding adds to an allowance, counted in 1/4096.
@@ -40,6 +74,8 @@ pub fn share_of(rule: Rule) -> i64
 {
     match rule {
         Rule::Nearest => return Rule::SHARE,
+        Rule::Down => return Rule::SHARE_DOWN,
+        Rule::Even => return Rule::SHARE,
     }
 }
 

@@ -1,11 +1,15 @@
 // Which run it is, and how it ended: one record for each, for lines and for rectangles.
+ghost use mathlib.Core.Bool.{true, false};
 ghost use mathlib.Core.Path.{_≡_};
 ghost use Prim.Native.Nat.{_<_};
 ghost use Rattle.rules.specs.Numbers.{count};
 ghost use Rattle.rules.specs.Answers.{start};
+ghost use Rattle.rules.specs.Calls.{ruleOf, ruleChecked};
 ghost use Rattle.laws.specs.Accepted.{Accepted};
 ghost use Rattle.sheetread.specs.Starts.{Starts};
-ghost use Rattle.factor.specs.Tasks.{byNearest, isInverse, inputsOf, numberOf, nthStage};
+ghost use Rattle.factor.specs.Rounding.{isDown, toEvens};
+ghost use Rattle.factor.specs.Tasks.{byNumber, isInverse, inputsOf, numberOf, nthStage};
+use rules::Answer;
 use rules::Rule;
 use rules::Sheet;
 use sheetread::factors::count_at;
@@ -30,14 +34,78 @@ pub struct Outcome {
     pub stage: usize,
 }
 
-// A run by the rule of document 01.
-pub fn nearest(task: Task) -> Run
-    ensures { λ r. ⌜ r ≡ byNearest task ⌝ }
+// The rule of a number.
+fn rule_of(number: u32) -> Rule
+    ensures { λ r. ⌜ r ≡ ruleOf number ⌝ }
 {
-    Run {
-        task,
-        rule: Rule::Nearest,
+    if number == 1 {
+        return Rule::Down;
     }
+    if number == 2 {
+        return Rule::Even;
+    }
+    Rule::Nearest
+}
+
+// 16: the number is no rule's.
+pub fn check_rule(number: u32) -> Answer
+    ensures { λ r. ⌜ r ≡ ruleChecked number ⌝ }
+{
+    if number > 2 {
+        return Answer::refused(16, 0, 0);
+    }
+    Answer::accepted()
+}
+
+// A run by the rule of that number.
+pub fn run_by(task: Task, number: u32) -> Run
+    ensures { λ r. ⌜ r ≡ byNumber task number ⌝ }
+{
+    let rule = rule_of(number);
+    Run { task, rule }
+}
+
+// Whether sums are rounded down.
+pub fn is_down(rule: Rule) -> bool
+    ensures { λ r. ⌜ r ≡ isDown rule ⌝ }
+{
+    match rule {
+        Rule::Nearest => return false,
+        Rule::Down => return true,
+        Rule::Even => return false,
+    }
+}
+
+// Whether halves go to the even number.
+pub fn is_even(rule: Rule) -> bool
+    ensures { λ r. ⌜ r ≡ toEvens rule ⌝ }
+{
+    match rule {
+        Rule::Nearest => return false,
+        Rule::Down => return false,
+        Rule::Even => return true,
+    }
+}
+
+// Whether the rule is another than rule 0.
+pub fn is_other(down: bool, even: bool) -> bool
+    ensures { λ r. ⌜ (r ≡ false → (down ≡ false) × (even ≡ false)) ⌝ }
+{
+    if down {
+        return true;
+    }
+    even
+}
+
+// Whether n numbers go through the code that is written out for m numbers. Under another rule they go through the loop over n: one
+// more test at each number would keep the compiler from writing the code out.
+pub fn is_written(other: bool, n: usize, m: usize) -> bool
+    ensures { λ r. ⌜ (r ≡ true → (other ≡ false) × (n ≡ m)) ⌝ }
+{
+    if other {
+        return false;
+    }
+    n == m
 }
 
 // Whether numbers go back.

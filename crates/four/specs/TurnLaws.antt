@@ -98,7 +98,7 @@ module _ {s : List ℤ} {p m a b c d : ℕ} (h : ElementIn s p m a b c d) {x : L
       (within-* (h .fourth .small) (k .small 3))
 
   pub rounded-sum-small : Within (mostSum + 2048) (roundedSum rule s p a b c d x)
-  rounded-sum-small = rounded-within rule unit row-sum-small
+  rounded-sum-small = rounded-within rule unit (omega arith) (omega arith) row-sum-small
 
 -- ---- turns one after another
 pub turned-as : {r v : Four} {g h : List ℤ → List ℤ} → g (v .block) ≡ h (v .block) → Turned r v g → Turned r v h

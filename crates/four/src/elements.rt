@@ -6,6 +6,7 @@ ghost use Prim.Native.Nat.{_+_, _<_};
 ghost use lib.ListN.{set};
 ghost use Rattle.rules.specs.Numbers.{bound};
 ghost use Rattle.factor.specs.SumBounds.{Bounded};
+ghost use Rattle.factor.specs.Rounding.{ruleBy};
 ghost use Rattle.four.specs.Turns.{entryAt, EntryIn, ElementIn, roundedSum, turn, Turned};
 use crate::Four;
 use factor::rounding::applied;
@@ -14,7 +15,6 @@ use factor::rounding::round_line;
 use factor::rounding::undone;
 use factor::sums::products_sum;
 use rules::Block;
-use rules::Rule;
 
 // Entry c of a factor whose entries start at place e.
 fn entry(sheet: &[i32], e: usize, c: usize) -> i32
@@ -29,7 +29,8 @@ fn entry(sheet: &[i32], e: usize, c: usize) -> i32
 
 // The rounded sum of the row of element m.
 fn rounded_sum(
-    rule: Rule,
+    down: bool,
+    even: bool,
     sheet: &[i32],
     p: usize,
     m: usize,
@@ -40,7 +41,7 @@ fn rounded_sum(
     x: &[i32; 4],
 ) -> i64
     requires { ⌜ ElementIn (now sheet) p m a b c d × Bounded bound (now x) ⌝ }
-    ensures { λ r. ⌜ r ≡ roundedSum rule (now (sheet .entry)) p a b c d (now (x .entry)) ⌝ }
+    ensures { λ r. ⌜ r ≡ roundedSum (ruleBy down even) (now (sheet .entry)) p a b c d (now (x .entry)) ⌝ }
 {
     let e = p + 4;
     let w = [
@@ -49,7 +50,7 @@ fn rounded_sum(
         entry(sheet, e, c),
         entry(sheet, e, d),
     ];
-    round_line(rule, products_sum(&w, x, 4))
+    round_line(down, even, products_sum(&w, x, 4))
 }
 
 // The number z at place m of a block. If it is beyond the bound, the block is of no account: it is `left`.
@@ -73,7 +74,8 @@ fn with_number(v: Four, m: usize, z: i64, left: [i32; 4]) -> Four
 
 // Element m applied, from the block x into v.
 pub fn applied_at(
-    rule: Rule,
+    down: bool,
+    even: bool,
     sheet: &[i32],
     p: usize,
     m: usize,
@@ -85,16 +87,17 @@ pub fn applied_at(
     v: Four,
 ) -> Four
     requires { ⌜ ElementIn (now sheet) p m a b c d × Bounded bound x × Bounded bound (v .block) ⌝ }
-    ensures { λ r. ⌜ Turned r v (turn rule (now (sheet .entry)) p false m a b c d x) ⌝ }
+    ensures { λ r. ⌜ Turned r v (turn (ruleBy down even) (now (sheet .entry)) p false m a b c d x) ⌝ }
 {
-    let q = rounded_sum(rule, sheet, p, m, a, b, c, d, &x);
+    let q = rounded_sum(down, even, sheet, p, m, a, b, c, d, &x);
     with_number(v, m, applied(sheet[p + m], x[m], q), x)
 }
 
 // Element m undone: its own number from the block y, the others from v. A refused block is left as 0, so that no number waits
 // for its own test before it enters the next sum.
 pub fn undone_at(
-    rule: Rule,
+    down: bool,
+    even: bool,
     sheet: &[i32],
     p: usize,
     m: usize,
@@ -106,9 +109,9 @@ pub fn undone_at(
     v: Four,
 ) -> Four
     requires { ⌜ ElementIn (now sheet) p m a b c d × Bounded bound y × Bounded bound (v .block) ⌝ }
-    ensures { λ r. ⌜ Turned r v (turn rule (now (sheet .entry)) p true m a b c d y) ⌝ }
+    ensures { λ r. ⌜ Turned r v (turn (ruleBy down even) (now (sheet .entry)) p true m a b c d y) ⌝ }
 {
     let x = v.block;
-    let q = rounded_sum(rule, sheet, p, m, a, b, c, d, &x);
+    let q = rounded_sum(down, even, sheet, p, m, a, b, c, d, &x);
     with_number(v, m, undone(sheet[p + m], y[m], q), [0; 4])
 }

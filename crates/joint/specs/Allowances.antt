@@ -15,7 +15,7 @@ use Rattle.factor.specs.declared.Layout.{Layout}
 use Rattle.factor.specs.Layouts.{row, rowOf}
 use Rattle.factor.specs.SumBounds.{Bounded}
 use Rattle.factor.specs.LayoutInSheet.{InSheet, row-wide}
-use Rattle.factor.specs.Rounding.{share-is}
+use Rattle.factor.specs.Rounding.{share-most}
 use Rattle.factor.specs.Magnitudes.{magnitudesOf, Entries, whole, row-entries, magnitudes-row}
 use Rattle.joint.specs.Sums.{columnSums, jointSum, mostColumn, Band, columns-small, joint-small}
 use Rattle.joint.specs.Elements.{mostJoint}
@@ -70,10 +70,10 @@ module _ {s : List ℤ} {f : Layout} (h : InSheet s f) (m : ℕ) (l : m < f .ord
       Within mostJoint (magnitudeSum s f m v b)
   magnitude-sum-small q k = joint-small magnitudes-band (within-le (omega arith) (within-pos unit)) q k
 
-share-within : (rule : Rule) → Within 2048 (pos (share rule))
-share-within rule = rw (share-is rule) (within-pos 2048)
+share-within : (rule : Rule) → Within 4096 (pos (share rule))
+share-within rule = within-le (share-most rule) (within-pos (share rule))
 
-pub share-small : (rule : Rule) (w u : Bool) → Within 2048 (shareOf rule w u)
+pub share-small : (rule : Rule) (w u : Bool) → Within 4096 (shareOf rule w u)
 share-small rule true true = within-le (omega arith) (within-pos 0)
 share-small rule true false = share-within rule
 share-small rule false u = share-within rule

@@ -1,20 +1,16 @@
 -- ONE ELEMENT OF A PAIR OF FACTORS as the code makes it: applied and undone; and how large it becomes.
 -- d is the sign of the element's row, v the sums of that row over the columns, x the element's number.
 use mathlib.Core.List.{List}
-use mathlib.Core.Path.{_≡_, ap, _∙_}
+use mathlib.Core.Path.{_≡_}
 use Prim.Native.Nat.{ℕ, _+_, _*_, _/_, _%_, _≤_, _<_}
 use native.Mathlib.Omega.{arith}
 use lib.IntN.{ℤ, pos, _+ℤ_, _-ℤ_, _*ℤ_}
 use lib.ListN.{replicate}
-use lib.Signed.{shrZ}
-use Rattle.whole.specs.Diff.{lia, given₁, Within}
-use Rattle.whole.specs.Floor.{shr-lo, shr-hi, shr-unique}
+use Rattle.whole.specs.Diff.{lia, Within}
 use Rattle.whole.specs.Stated.{Sign}
-use Rattle.whole.specs.Laws.{distrib}
 use Rattle.whole.specs.Machine.{within-le, within-*, within-pos, sign-within}
 use Rattle.rules.specs.Numbers.{mostOrder, mostEntry, unit, unit², bound, mostAllowance, at}
 use Rattle.rules.specs.declared.Rule.{Rule}
-use Rattle.rules.specs.declared.Rule.the-variants.{Nearest}
 use Rattle.rules.specs.Stages.{R}
 use Rattle.factor.specs.declared.Layout.{Layout}
 use Rattle.factor.specs.Layouts.{rowOf}
@@ -107,25 +103,8 @@ module _ {s : List ℤ} {f : Layout} {v : List ℤ} (h : InSheet s f) (j : ℕ) 
 
   pub rounded-rest-small : (rule : Rule) → Within (mostJoint + 8388608) (roundedRest rule s f j v)
   unfolding roundedRest
-  rounded-rest-small rule = rounded-within rule unit² rest-element-small
+  rounded-rest-small rule = rounded-within rule unit² (omega arith) (omega arith) rest-element-small
 
--- ---- the own term passes through the rounding: it is a whole number of 16777216
-floor-past : (S : ℕ) (s k : ℤ) → 0 < S → shrZ s S ≡ k +ℤ shrZ (s -ℤ (pos S *ℤ k)) S
-floor-past S s k h =
-    let q = shrZ (s -ℤ (pos S *ℤ k)) S in
-    shr-unique s S (k +ℤ q)
-    (given₁ (shr-lo (s -ℤ (pos S *ℤ k)) S h) (simp distrib (simp lia (omega arith))))
-    (given₁ (shr-hi (s -ℤ (pos S *ℤ k)) S h) (simp distrib (simp lia (omega arith))))
-
-pub own-inside : (rule : Rule) (s d e x : ℤ) → R rule unit² s ≡ appliedFrom rule s d e x
-unfolding R appliedFrom
-own-inside Nearest s d e x =
-    floor-past unit² (s +ℤ pos 8388608) k (omega arith) ∙ ap (λ (z : ℤ). k +ℤ shrZ z unit²) (apart-own s)
-  where
-    k : ℤ
-    k = (d *ℤ e) *ℤ x
-
-    apart-own :
-        (s : ℤ) → (s +ℤ pos 8388608) -ℤ (pos unit² *ℤ ((d *ℤ e) *ℤ x)) ≡ (s -ℤ (((pos unit *ℤ d) *ℤ (pos unit *ℤ e)) *ℤ x)) +ℤ
-        pos 8388608
-    apart-own s = simp lia (omega arith)
+-- ---- the own term is a whole number of 16777216: the element's number, by its two signs
+pub own-term : (d e x : ℤ) → pos unit² *ℤ ((d *ℤ e) *ℤ x) ≡ (diagonalOf d *ℤ diagonalOf e) *ℤ x
+own-term d e x = simp lia (omega arith)

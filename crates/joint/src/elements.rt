@@ -10,6 +10,7 @@ ghost use Rattle.rules.specs.Numbers.{unit, bound};
 ghost use Rattle.factor.specs.SumBounds.{Bounded};
 ghost use Rattle.factor.specs.LayoutInSheet.{InSheet};
 ghost use Rattle.joint.specs.Sums.{mostColumn};
+ghost use Rattle.factor.specs.Rounding.{ruleBy};
 ghost use Rattle.joint.specs.Elements.{signAt, diagonalOf, sumsAt, restSumsAt};
 ghost use Rattle.joint.specs.Elements.{RowGiven, ElementGiven, roundedRest, undoneRest};
 ghost use Rattle.joint.specs.Elements.{mostJoint, appliedFrom, undoneFrom};
@@ -18,10 +19,10 @@ use crate::sums::rest_sums;
 use crate::sums::whole_sum;
 use factor::Layout;
 use factor::rounding::round_joint;
+use factor::rounding::round_past;
 use factor::rounding::undone;
 use factor::row_of;
 use rules::Block;
-use rules::Rule;
 use rules::Scale;
 use rules::Sheet;
 
@@ -89,9 +90,16 @@ pub fn rest_sums_at(
 }
 
 // The rounded sum of the element in column j, where v has nothing of the element's own number.
-fn rounded_rest_at(rule: Rule, row: &[i32], f: Layout, j: usize, v: &[i64; Block::LINE]) -> i64
+fn rounded_rest_at(
+    down: bool,
+    even: bool,
+    row: &[i32],
+    f: Layout,
+    j: usize,
+    v: &[i64; Block::LINE],
+) -> i64
     requires { ⌜ InSheet (now row) f × (j < f .order) × Bounded mostColumn (now v) ⌝ }
-    ensures { λ r. ⌜ r ≡ roundedRest rule (now (row .entry)) f j (now (v .entry)) ⌝ }
+    ensures { λ r. ⌜ r ≡ roundedRest (ruleBy down even) (now (row .entry)) f j (now (v .entry)) ⌝ }
 {
     let s = whole_sum(
         row,
@@ -101,12 +109,13 @@ fn rounded_rest_at(rule: Rule, row: &[i32], f: Layout, j: usize, v: &[i64; Block
         v,
         v[j],
     );
-    round_joint(rule, s)
+    round_joint(down, even, s)
 }
 
 // What the element was, where v has of its own row the numbers recovered before it.
 pub fn undone_at(
-    rule: Rule,
+    down: bool,
+    even: bool,
     row: &[i32],
     f: Layout,
     j: usize,
@@ -115,12 +124,12 @@ pub fn undone_at(
     x: i32,
 ) -> i64
     requires { ⌜ ElementGiven (now row) f j d (now v) x ⌝ }
-    ensures { λ r. ⌜ r ≡ undoneRest rule (now (row .entry)) f j d (now (v .entry)) x ⌝ }
+    ensures { λ r. ⌜ r ≡ undoneRest (ruleBy down even) (now (row .entry)) f j d (now (v .entry)) x ⌝ }
 {
     undone(
         both_signs(d, sign_at(row, f, j)),
         x,
-        rounded_rest_at(rule, row, f, j, v),
+        rounded_rest_at(down, even, row, f, j, v),
     )
 }
 
@@ -143,21 +152,27 @@ pub fn with_diagonal(sum: i64, d: i32, w: i64) -> i64
     sum + Scale::LINE * turned(d, w)
 }
 
-// What an element becomes whose sum s has its own term in it: the number x, times the signs d of its row and e of its column. The
-// own term is a whole number of 16777216, so it passes through this rounding and need not be taken off.
-pub fn applied_whole(rule: Rule, s: i64, d: i32, e: i32, x: i32) -> i64
-    requires { ⌜ Within mostJoint s × Sign d × Sign e × Within bound x ⌝ }
-    ensures { λ r. ⌜ r ≡ appliedFrom rule s d e x ⌝ }
+// What an element has of its own: its number x, by the signs d of its row and e of its column.
+fn own(d: i32, e: i32, x: i32) -> i64
+    requires { ⌜ Sign d × Sign e × Within bound x ⌝ }
+    ensures { λ r. ⌜ r ≡ (d *ℤ e) *ℤ x ⌝ }
 {
-    match rule {
-        Rule::Nearest => return round_joint(rule, s),
-    }
+    (both_signs(d, e) as i64) * (x as i64)
+}
+
+// What an element becomes whose sum s has its own term in it. The own term is a whole number of 16777216, so it need not be taken
+// off. But halves go to what is even without it: the own number has to be known there.
+pub fn applied_whole(down: bool, even: bool, s: i64, d: i32, e: i32, x: i32) -> i64
+    requires { ⌜ Within mostJoint s × Sign d × Sign e × Within bound x ⌝ }
+    ensures { λ r. ⌜ r ≡ appliedFrom (ruleBy down even) s d e x ⌝ }
+{
+    round_past(down, even, s, own(d, e, x))
 }
 
 // What an element was whose sum s has nothing of its own number.
-pub fn undone_whole(rule: Rule, s: i64, d: i32, e: i32, x: i32) -> i64
+pub fn undone_whole(down: bool, even: bool, s: i64, d: i32, e: i32, x: i32) -> i64
     requires { ⌜ Within mostJoint s × Sign d × Sign e × Within bound x ⌝ }
-    ensures { λ r. ⌜ r ≡ undoneFrom rule s d e x ⌝ }
+    ensures { λ r. ⌜ r ≡ undoneFrom (ruleBy down even) s d e x ⌝ }
 {
-    undone(both_signs(d, e), x, round_joint(rule, s))
+    undone(both_signs(d, e), x, round_joint(down, even, s))
 }

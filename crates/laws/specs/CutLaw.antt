@@ -13,7 +13,7 @@ use Rattle.rules.specs.declared.Rule.{Rule}
 use Rattle.rules.specs.Stages.{Ran, done, beyond, later, runForward}
 use Rattle.rules.specs.Shapes.{lineStages, jointStages}
 use Rattle.rules.specs.Answers.{accepted, checked, matching, pairChecked}
-use Rattle.rules.specs.Calls.{Reply, reply, Plan, line, joint, ranAnswer, ranMemory, forwardCall}
+use Rattle.rules.specs.Calls.{Reply, reply, Plan, line, joint, ranAnswer, ranMemory, forwardCall, ruleOf, ruleChecked, under}
 use Rattle.rules.specs.Laws.Runs.{follow, cut-forward}
 use Rattle.rules.specs.Laws.Cuts.{lines-append, lines-count, joints-append, joints-count}
 use Rattle.laws.specs.Stated.Cuts.{farther, inTwo, CutLaw, cut, cutFront, cutBack}
@@ -22,7 +22,7 @@ use Rattle.laws.specs.Sound.{sheets-match, counts-agree}
 use Rattle.laws.specs.Cut.{cut-factors-count, cut-match, front-accepted, back-accepted, cut-factors}
 use Rattle.laws.specs.Cut.{line-run-same, joint-run-same}
 use Rattle.laws.specs.AnswersInTurn.{ranReply}
-use Rattle.laws.specs.Plans.{run-ready, forward-length}
+use Rattle.laws.specs.Plans.{run-ready, forward-length, under-fine}
 
 -- ---- a call whose sheets and slices are right replies what its run gives
 ready : (rule : Rule) (p : Plan) (x y : List ℤ) → p .sheets .number ≡ 0 → length x ≡ p .size → length y ≡ p .size →
@@ -134,3 +134,9 @@ joint-cut rule c r f h some not-all =
     plans-cut rule (joint c r) (joint (cutFront c f) (cutFront r f)) (joint (cutBack c f) (cutBack r f)) f h
     (front-pair rule (a .0) (a .1) (a .2) f some not-all) (back-pair rule (a .0) (a .1) (a .2) f some not-all) refl refl
     (joint-runs rule (a .0) (a .1) (a .2) f some not-all)
+
+-- ---- by the number of a rule, of the whole and of both parts
+pub ruled-cut :
+    (k : ℕ) {p front back : Plan} {f : ℕ} → ruleChecked k .number ≡ 0 → CutLaw (ruleOf k) p front back f →
+    CutLaw (ruleOf k) (under k p) (under k front) (under k back) f
+ruled-cut k {p} {front} {back} h c = rw (under-fine k p h, under-fine k front h, under-fine k back h) c

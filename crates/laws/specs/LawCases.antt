@@ -16,6 +16,7 @@ use Rattle.rules.specs.Shapes.{those, byTurn, turn, order, inRow, stageOf, line
 use Rattle.rules.specs.Shapes.{jointWeight, jointShared, jointStage, jointStages}
 use Rattle.rules.specs.Answers.{_or-else_, accepted, refused, further, first, matching, pairChecked}
 use Rattle.rules.specs.Calls.{Reply, reply, line, joint, ranAnswer, ranMemory, runReply, forwardCall, allowanceCall}
+use Rattle.rules.specs.Calls.{ruleOf, ruled}
 use Rattle.rules.specs.Strips.{stripAnswer, outputs, bytesOf, strip}
 use Rattle.laws.specs.Stated.Calls.{E, D}
 use Rattle.laws.specs.Stated.Cuts.{cut, cutFront, cutBack, farther, inTwo}
@@ -70,6 +71,27 @@ unfolding sum go times among faultOf one kindOf triangle weights body factor clo
     scale exact later run through runForward runAllowance exactProduct exactScale those byTurn turn order inRow stageOf
     lineStage lineStages _or-else_ reply line ranAnswer ranMemory runReply forwardCall allowanceCall
 whole-allowance = refl
+
+-- A SHARE OF 2048 IS TOO SMALL UNDER RULE 1: an entry of 4095 takes (1,0) down by 4095/4096, and the allowance is 4096
+abbrev almost : List ℤ
+almost = pos 2 ∷ pos 1 ∷ pos 2 ∷ pos 1 ∷ pos 1 ∷ pos 4095 ∷ []
+
+abbrev fallen : ℕ
+fallen =
+    natAbs
+    ((pos (D (line almost)) *ℤ at (ruled 1 forwardCall (line almost) (two (pos 1) (pos 0)) lent .memory) 1)
+    -ℤ at (E (line almost) (two (pos 1) (pos 0))) 1)
+
+pub share-of-rule-1 :
+    (leb (unit * fallen) (D (line almost) * 2048)
+    ∷ leb (unit * fallen) (D (line almost) * natAbs (at (ruled 1 allowanceCall (line almost) lent .memory) 1))
+    ∷ [])
+    ≡ (false ∷ true ∷ [])
+unfolding sum go times among faultOf one kindOf triangle weights body factor closed head reading numbers signsAt above
+    entriesBefore factorAt factorsFrom factors hasEntry matrix R share ceiling fill inside off weighed multiples forward allow
+    scale exact later run through runForward runAllowance exactProduct exactScale those byTurn turn order inRow stageOf
+    lineStage lineStages _or-else_ reply line ranAnswer ranMemory runReply forwardCall allowanceCall ruleOf
+share-of-rule-1 = refl
 
 -- THE SCALE OF A PAIR is that of a product of two entries
 pub scales : (D (line both) ∷ D (joint both both) ∷ []) ≡ (unit ^ 2 ∷ unit² ^ 2 ∷ [])

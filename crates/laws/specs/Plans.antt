@@ -5,19 +5,20 @@ use mathlib.Core.Bool.{Bool}
 use mathlib.Core.List.{List, [], _∷_, reverse}
 use mathlib.Core.Logic.{_↔_}
 use mathlib.Core.Path.{_≡_, refl, sym, ap, _∙_}
-use Prim.Native.Nat.{ℕ, suc}
-use native.Mathlib.Decide.{ℕ-discrete}
+use Prim.Native.Nat.{ℕ, zero, suc, _≤_}
+use native.Mathlib.Decide.{ℕ-discrete, decLe}
 use native.Mathlib.Nat.{mul-pos}
 use native.Mathlib.Omega.{arith}
-use borrow.Author.Tests.{eq-eqb, ne-eqb}
+use borrow.Author.Tests.{eq-eqb, ne-eqb, le-leb, lt-leb}
 use lib.IntN.{ℤ, pos}
 use lib.ListN.{length, replicate, length-replicate}
 use Rattle.rules.specs.declared.Answer.{Answer}
 use Rattle.rules.specs.declared.Rule.{Rule}
+use Rattle.rules.specs.declared.Rule.the-variants.{Nearest, Down, Even}
 use Rattle.rules.specs.Stages.{Stage, forward, undo, allow, Ran, done, beyond, run, through, runForward, runInverse, runAllowance}
 use Rattle.rules.specs.Answers.{accepted, _or-else_}
 use Rattle.rules.specs.Calls.{Gives, reply, Plan, line, joint, sized, ranAnswer, ranMemory, runReply, forwardCall, inverseCall}
-use Rattle.rules.specs.Calls.{allowanceCall}
+use Rattle.rules.specs.Calls.{allowanceCall, ruleNumber, ruleOf, ruleChecked, under}
 use Rattle.rules.specs.Laws.Inverses.{length-forward, length-undo}
 use Rattle.rules.specs.Laws.AllowanceLaw.{length-allow}
 use Rattle.rules.specs.Laws.Runs.{run-through}
@@ -40,6 +41,35 @@ joint-plan c r = record {
   good = λ h. let a = pair-read c r h in joints-good (sheets-match (a .0) (a .1) (a .2));
   some = λ h. let a = pair-read c r h in mul-pos (accepted-order (a .0) .least) (accepted-order (a .1) .least);
 }
+
+-- the same by the number of a rule, whose 16 comes first; where the number is a rule's, the plan is the plan itself
+pub under-plan : (k : ℕ) {p : Plan} → GoodPlan p → GoodPlan (under k p)
+under-plan k {p} g = record {
+  good = λ h. g .good (both-fine (ruleChecked k) (p .sheets) h .1);
+  some = λ h. g .some (both-fine (ruleChecked k) (p .sheets) h .1);
+}
+
+pub under-fine : (k : ℕ) (p : Plan) → ruleChecked k .number ≡ 0 → under k p ≡ p
+unfolding _or-else_
+under-fine k p h = split (decLe k 2)
+  where
+    split : Dec (k ≤ 2) → under k p ≡ p
+    split (yes l) = rw (le-leb k 2 l)
+    split (no l) = let x : _≡_ {A = ℕ} 16 0 = rw (lt-leb k 2 (omega arith)) at h in absurd (omega arith)
+
+-- the rules and the numbers 0, 1, 2 correspond
+pub rule-of-number : (rule : Rule) → ruleOf (ruleNumber rule) ≡ rule
+unfolding ruleOf ruleNumber
+rule-of-number Nearest = refl
+rule-of-number Down = refl
+rule-of-number Even = refl
+
+pub number-of-rule : (k : ℕ) → k ≤ 2 → ruleNumber (ruleOf k) ≡ k
+unfolding ruleOf ruleNumber
+number-of-rule zero l = refl
+number-of-rule (suc zero) l = refl
+number-of-rule (suc (suc zero)) l = refl
+number-of-rule (suc (suc (suc k))) l = absurd (omega arith)
 
 -- ---- what is asked after the sheets
 pub sized-fine : {A : Type 0} (side n : ℕ) (v : List A) → sized side n v .number ≡ 0 → length v ≡ n

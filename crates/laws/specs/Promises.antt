@@ -1,10 +1,10 @@
 -- WHAT A USER IS PROMISED of the calls of document 01: demands 2 and 3 over any plan, then for a line sheet and for a pair with
 -- no hypothesis but that the calls are accepted; refused calls leave memory alone; a reply leaves one answer. Assumes nothing.
 use mathlib.Core.List.{List}
-use mathlib.Core.Path.{_≡_, sym, ap, _∙_}
+use mathlib.Core.Path.{_≡_, refl, sym, ap, _∙_}
 use Prim.Native.Nat.{ℕ, _+_, _*_, _^_, _<_}
 use native.Mathlib.Omega.{arith}
-use borrow.Author.Tests.{ne-eqb}
+use borrow.Author.Tests.{ne-eqb, lt-leb}
 use lib.IntN.{ℤ, _*ℤ_}
 use lib.ListN.{length}
 use Rattle.whole.specs.Stated.{sum}
@@ -13,9 +13,9 @@ use Rattle.rules.specs.Numbers.{unit, unit², at, count}
 use Rattle.rules.specs.Factors.{factors}
 use Rattle.rules.specs.declared.Rule.{Rule}
 use Rattle.rules.specs.Matrices.{product}
-use Rattle.rules.specs.Answers.{checked, pairChecked}
+use Rattle.rules.specs.Answers.{refused, _or-else_, checked, pairChecked}
 use Rattle.rules.specs.Calls.{Reply, Gives, reply, read, write, writeTable, Plan, line, joint, runReply, forwardCall, inverseCall}
-use Rattle.rules.specs.Calls.{allowanceCall}
+use Rattle.rules.specs.Calls.{allowanceCall, ruleOf, under, ruled}
 use Rattle.rules.specs.Laws.Runs.{there-and-back, back-and-there}
 use Rattle.rules.specs.Laws.AllowanceLaw as Near
 use Rattle.rules.specs.Laws.Cuts.{lines-scale, joints-scale}
@@ -24,7 +24,7 @@ use Rattle.laws.specs.Stated.Calls.{E, D, GoodPlan, Promises, Keeps}
 use Rattle.laws.specs.Accepted.{accepted-read, pair-read}
 use Rattle.laws.specs.Sound.{sheet-sound, sheets-match, factors-length, counts-agree}
 use Rattle.laws.specs.Plans.{line-plan, joint-plan, forward-length, inverse-length, forward-gives, inverse-gives}
-use Rattle.laws.specs.Plans.{allowance-gives}
+use Rattle.laws.specs.Plans.{allowance-gives, under-plan}
 
 module _ (rule : Rule) {p : Plan} (plan : GoodPlan p) where
   pub promised : Promises rule p
@@ -59,6 +59,24 @@ line-promises rule s = promised rule (line-plan s)
 
 pub joint-promises : (rule : Rule) (c r : List ℤ) → Promises rule (joint c r)
 joint-promises rule c r = promised rule (joint-plan c r)
+
+-- by the number of a rule, over any good plan; E and D are those of the plan, whatever the rule
+pub ruled-promises : (k : ℕ) {p : Plan} → GoodPlan p → Promises (ruleOf k) (under k p)
+ruled-promises k g = promised (ruleOf k) (under-plan k g)
+
+-- request R-5: "16 for a rule not 0, 1 or 2, place 0, before all others", whatever the sheets are and whatever is lent
+module _ (k : ℕ) (p : Plan) (none : 2 < k) where
+  pub forward-none : (x y : List ℤ) → Gives (refused 16 0 0) y (ruled k forwardCall p x y)
+  unfolding forwardCall runReply reply _or-else_
+  forward-none x y = rw (lt-leb k 2 none) (refl, refl)
+
+  pub inverse-none : (x y : List ℤ) → Gives (refused 16 0 0) y (ruled k inverseCall p x y)
+  unfolding inverseCall runReply reply _or-else_
+  inverse-none x y = rw (lt-leb k 2 none) (refl, refl)
+
+  pub allowance-none : (y : List ℤ) → Gives (refused 16 0 0) y (ruled k allowanceCall p y)
+  unfolding allowanceCall reply _or-else_
+  allowance-none y = rw (lt-leb k 2 none) (refl, refl)
 
 -- "Exact products": E is the product of the factors' matrices, and in two dimensions "A·X·B-transposed"
 pub line-product : (s : List ℤ) → checked s .number ≡ 0 → (x : List ℤ) → length x ≡ count s 0 → (m : ℕ) → m < count s 0 →

@@ -8,15 +8,15 @@ use native.Mathlib.Decide.{ℕ-discrete, decLt}
 use native.Mathlib.Nat.{div-add-mod', mul-le-mul-right, suc-mul, zero-mul, mul-mod-left, mul-div-cancel}
 use native.Mathlib.Numerals.{add-one}
 use native.Mathlib.Omega.{arith}
-use borrow.Author.Tests.{eq-eqb, ne-eqb}
+use borrow.Author.Tests.{eq-eqb, ne-eqb, lt-leb}
 use lib.IntN.{ℤ}
 use lib.ListN.{length, take, drop, getD, length-append, length-drop, List·getD-append}
 use lib.Seq.{length-take-le, take-append-le, drop-append-le, drop-at, getD-at, take-all}
 use Rattle.rules.specs.declared.Rule.{Rule}
 use Rattle.rules.specs.Stages.{Ran, done, beyond, runForward, runInverse}
-use Rattle.rules.specs.Answers.{accepted, _or-else_}
-use Rattle.rules.specs.Calls.{Reply, reply, Plan, sized, ranAnswer, runReply, forwardCall, inverseCall}
-use Rattle.rules.specs.Strips.{StripReply, block, inBlocks, blockReply, outputs, bytesOf, stripAnswer, strip}
+use Rattle.rules.specs.Answers.{accepted, refused, _or-else_}
+use Rattle.rules.specs.Calls.{Reply, reply, Plan, under, sized, ranAnswer, runReply, forwardCall, inverseCall}
+use Rattle.rules.specs.Strips.{StripReply, GivesStrip, block, inBlocks, blockReply, outputs, bytesOf, stripAnswer, strip}
 use Rattle.laws.specs.Accepted.{both-fine}
 use Rattle.laws.specs.Plans.{run-ready, sized-fine, sized-is, forward-length, inverse-length, forward-gives, inverse-gives}
 use Rattle.laws.specs.Plans.{forward-accepted, inverse-accepted}
@@ -222,3 +222,9 @@ module _ (p : Plan) (call : List ℤ → List ℤ → Reply ℤ) (x y : List ℤ
       split : Dec (stripAnswer p x y b .number ≡ 0) → strip p call x y b .answer ≡ stripAnswer p x y b
       split (yes h) = ap (λ (q : StripReply). q .answer) (strip-ran h)
       split (no h) = ap (λ (q : StripReply). q .answer) (strip-found h)
+
+-- request R-5: "16 for a rule not 0, 1 or 2, place 0, before all others", whatever the sheets are and whatever is lent
+pub strip-none : (k : ℕ) (p : Plan) → 2 < k → (call : List ℤ → List ℤ → Reply ℤ) (x y : List ℤ) (b : List ℕ) →
+    GivesStrip (refused 16 0 0) y b (strip (under k p) call x y b)
+unfolding strip stripAnswer _or-else_
+strip-none k p none call x y b = rw (lt-leb k 2 none) (refl, refl, refl)

@@ -1,15 +1,15 @@
-// The line: forward, inverse and allowance runs of a block of n numbers over one sheet. The calls ask nothing of their callers:
-// whatever is lent is answered, and a refused call leaves the output as it was.
-ghost use Rattle.rules.specs.Calls.{Gives, line, forwardCall, inverseCall, allowanceCall};
-ghost use Rattle.factor.specs.Tasks.{callOf};
+// The line: forward, inverse and allowance runs of a block of n numbers over one sheet, by the rule of a number. The calls ask
+// nothing of their callers: whatever is lent is answered, and a refused call leaves the output as it was.
+ghost use Rattle.rules.specs.Calls.{Gives, line, ruled, forwardCall, inverseCall, allowanceCall};
+ghost use Rattle.factor.specs.Tasks.{callBy, callOf};
 ghost use Rattle.factor.specs.CallAnswers.{NoneLent};
 use factor::lengths::check_lengths;
 use factor::run::Run;
 use factor::run::Task;
-use factor::run::nearest;
+use factor::run::check_rule;
+use factor::run::run_by;
 use linerun::block::run_block;
 use rules::Answer;
-use rules::Rule;
 use rules::Sheet;
 use sheetcheck::checks::check_starts;
 use sheetread::factors::count_at;
@@ -32,25 +32,38 @@ fn call(run: Run, s: &[i32], x: &[i32], y: &mut [i32]) -> Answer
     run_block(run, s, &starts, x, y)
 }
 
-// Forward: x through the sheet's factors, first to last, into y.
-pub fn forward(s: &[i32], x: &[i32], y: &mut [i32]) -> Answer
-    ensures { λ r. ⌜ Gives r (now (y .exit)) (forwardCall Rule.Nearest (line (now (s .entry))) (now (x .entry))
+// 16 for a number that is no rule's, then the call by that rule.
+fn call_by(task: Task, rule: u32, s: &[i32], x: &[i32], y: &mut [i32]) -> Answer
+    requires { ⌜ NoneLent task (now x) ⌝ }
+    ensures { λ r. ⌜ Gives r (now (y .exit)) (ruled rule (callBy task) (line (now (s .entry))) (now (x .entry))
         (now (y .entry))) ⌝ }
 {
-    call(nearest(Task::Forward), s, x, y)
+    let a = check_rule(rule);
+    if a.number != 0 {
+        return a;
+    }
+    call(run_by(task, rule), s, x, y)
+}
+
+// Forward: x through the sheet's factors, first to last, into y.
+pub fn forward(rule: u32, s: &[i32], x: &[i32], y: &mut [i32]) -> Answer
+    ensures { λ r. ⌜ Gives r (now (y .exit)) (ruled rule forwardCall (line (now (s .entry))) (now (x .entry))
+        (now (y .entry))) ⌝ }
+{
+    call_by(Task::Forward, rule, s, x, y)
 }
 
 // Inverse: x back through the sheet's factors, last to first, into y.
-pub fn inverse(s: &[i32], x: &[i32], y: &mut [i32]) -> Answer
-    ensures { λ r. ⌜ Gives r (now (y .exit)) (inverseCall Rule.Nearest (line (now (s .entry))) (now (x .entry))
+pub fn inverse(rule: u32, s: &[i32], x: &[i32], y: &mut [i32]) -> Answer
+    ensures { λ r. ⌜ Gives r (now (y .exit)) (ruled rule inverseCall (line (now (s .entry))) (now (x .entry))
         (now (y .entry))) ⌝ }
 {
-    call(nearest(Task::Inverse), s, x, y)
+    call_by(Task::Inverse, rule, s, x, y)
 }
 
 // The allowances of the forward run's coefficients, into y.
-pub fn allowance(s: &[i32], y: &mut [i32]) -> Answer
-    ensures { λ r. ⌜ Gives r (now (y .exit)) (allowanceCall Rule.Nearest (line (now (s .entry))) (now (y .entry))) ⌝ }
+pub fn allowance(rule: u32, s: &[i32], y: &mut [i32]) -> Answer
+    ensures { λ r. ⌜ Gives r (now (y .exit)) (ruled rule allowanceCall (line (now (s .entry))) (now (y .entry))) ⌝ }
 {
-    call(nearest(Task::Allowance), s, &s[0..0], y)
+    call_by(Task::Allowance, rule, s, &s[0..0], y)
 }

@@ -30,4 +30,4 @@ module _ {s : List ℤ} {f : Layout} (h : InSheet s f) (m : ℕ) (l : m < f .ord
 
   pub rounded-sum-small : (rule : Rule) {x : List ℤ} → Bounded bound x → Within mostRounded (roundedSum rule s f x m)
   unfolding roundedSum
-  rounded-sum-small rule k = rounded-within rule unit (row-small (bounded-le (omega arith) k))
+  rounded-sum-small rule k = rounded-within rule unit (omega arith) (omega arith) (row-small (bounded-le (omega arith) k))

@@ -12,11 +12,10 @@ use Rattle.whole.specs.Diff.{lia}
 use Rattle.whole.specs.Stated.{sum}
 use Rattle.rules.specs.declared.Kind.the-variants.{Lower, Upper, Single}
 use Rattle.rules.specs.declared.Rule.{Rule}
-use Rattle.rules.specs.declared.Rule.the-variants.{Nearest}
 use Rattle.rules.specs.Numbers.{mostOrder, unit, mostAllowance, at}
 use Rattle.rules.specs.Sheets.{triangle}
 use Rattle.rules.specs.Factors.{above}
-use Rattle.rules.specs.Stages.{R}
+use Rattle.rules.specs.Laws.Rounding.{rounding}
 use Rattle.laws.specs.Tests.{triangle-twice}
 use Rattle.factor.specs.declared.Layout.{Layout}
 use Rattle.factor.specs.declared.Row.{Row}
@@ -91,11 +90,7 @@ module _ {s x : List ℤ} {r : Row} {m : ℕ} (h : RowIn s mostOrder r m) (k : B
       ∙ along-runs h k wide
 
 -- ---- a row without entries
-zero-rounds : (rule : Rule) → R rule unit (pos 0) ≡ pos 0
-unfolding R
-zero-rounds Nearest = refl
-
 pub single-none : (rule : Rule) (s : List ℤ) (f : Layout) (x : List ℤ) (m : ℕ) → f .kind ≡ Single → m ≢ f .row →
     roundedSum rule s f x m ≡ pos 0
 unfolding roundedSum rowBy along sum
-single-none rule s f x m k q = rw (k, ne-eqb m (f .row) q) (zero-rounds rule)
+single-none rule s f x m k q = rw (k, ne-eqb m (f .row) q) (rounding rule .whole unit (pos 0) (omega arith))

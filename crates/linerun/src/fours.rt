@@ -1,6 +1,6 @@
 // Blocks of four, the most common order. Only an accepted run of numbers ends here: where the answer is no, the run of any order
-// says what is refused, and where.
-ghost use mathlib.Core.Bool.{true};
+// says what is refused, and where. Nor does a run whose halves go to the even number: the stages of four are compiled without it.
+ghost use mathlib.Core.Bool.{true, false};
 ghost use mathlib.Core.Logic.{_≢_};
 ghost use mathlib.Core.Path.{_≡_};
 ghost use lib.ListN.{length};
@@ -9,12 +9,15 @@ ghost use Rattle.rules.specs.Stages.{done};
 ghost use Rattle.laws.specs.Accepted.{Accepted};
 ghost use Rattle.sheetread.specs.Starts.{Starts};
 ghost use Rattle.factor.specs.SumBounds.{Bounded};
+ghost use Rattle.factor.specs.Rounding.{toEvens};
 ghost use Rattle.factor.specs.Tasks.{inputsOf, ran, runBy};
 ghost use Rattle.linerun.specs.Runs.{lineStagesOf};
 use factor::block::copy_front;
 use factor::bounds::is_inside;
 use factor::run::Run;
 use factor::run::Task;
+use factor::run::is_down;
+use factor::run::is_even;
 use factor::run::is_inverse;
 use factor::run::nth_start;
 use four::Four;
@@ -42,21 +45,22 @@ fn load_four(x: &[i32]) -> [i32; 4]
     b
 }
 
-// All stages.
+// All stages, by a rule whose first test is enough.
 fn run_stages_of_four(run: Run, sheet: &[i32], starts: &[u16; Sheet::FACTORS], x: [i32; 4]) -> Four
     requires { ⌜ Accepted (now sheet) × Starts (now sheet) (now starts) × (count (now sheet) 0 ≡ 4)
-        × (run .task ≢ Task.Allowance) × Bounded bound x ⌝ }
+        × (run .task ≢ Task.Allowance) × (toEvens (run .rule) ≡ false) × Bounded bound x ⌝ }
     ensures { λ r. ⌜ (r .ok ≡ true →
         runBy run (count (now (sheet .entry)) 0) (lineStagesOf (now (sheet .entry))) x ≡ done (r .block)) ⌝ }
 {
     let task = run.task;
     let rule = run.rule;
+    let down = is_down(rule);
     let back = is_inverse(task);
     let many = count_at(sheet, 1);
     let mut v = x;
     for t in 0..many {
         let i = nth_start(task, sheet, starts, t);
-        let r = four::run_stage(back, rule, sheet, i, v);
+        let r = four::run_stage(back, down, false, sheet, i, v);
         if !r.ok {
             return r;
         }
@@ -65,7 +69,7 @@ fn run_stages_of_four(run: Run, sheet: &[i32], starts: &[u16; Sheet::FACTORS], x
     Four { ok: true, block: v }
 }
 
-// The run of the lent numbers, if it is one of four and accepted.
+// The run of the lent numbers, if it is one of four and accepted, and its halves do not go to the even number.
 pub fn run_four(run: Run, sheet: &[i32], starts: &[u16; Sheet::FACTORS], x: &[i32]) -> Four
     requires { ⌜ Accepted (now sheet) × Starts (now sheet) (now starts)
         × (length (now x) ≡ inputsOf (run .task) (count (now sheet) 0)) ⌝ }
@@ -74,7 +78,14 @@ pub fn run_four(run: Run, sheet: &[i32], starts: &[u16; Sheet::FACTORS], x: &[i3
         ≡ done (r .block))) ⌝ }
 {
     let task = run.task;
+    let rule = run.rule;
     if !is_four(task, count_at(sheet, 0)) {
+        return Four {
+            ok: false,
+            block: [0; 4],
+        };
+    }
+    if is_even(rule) {
         return Four {
             ok: false,
             block: [0; 4],

@@ -17,6 +17,8 @@ use factor::moves::move_from;
 use factor::run::Outcome;
 use factor::run::Run;
 use factor::run::Task;
+use factor::run::is_down;
+use factor::run::is_even;
 use rules::Block;
 
 // A permutation moves the numbers, whatever the task; a factor with weights is taken by the task.
@@ -36,9 +38,11 @@ pub fn run_stage(run: Run, sheet: &[i32], n: usize, i: usize, x: [i32; Block::LI
             outcome: Outcome { ok: true, stage: 0 },
         };
     }
+    let down = is_down(rule);
+    let even = is_even(rule);
     match task {
-        Task::Forward => return apply_weights(rule, sheet, f, x),
-        Task::Inverse => return undo_weights(rule, sheet, f, x),
+        Task::Forward => return apply_weights(down, even, sheet, f, x),
+        Task::Inverse => return undo_weights(down, even, sheet, f, x),
         Task::Allowance => return allow_weights(rule, sheet, f, x),
     }
 }

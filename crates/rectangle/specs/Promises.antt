@@ -1,6 +1,6 @@
--- THE PROMISES OF A RECTANGLE'S CALLS. `forward`, `inverse` and `allowance` have the contracts `Gives a m (forwardCall Nearest
--- (joint c r) x y)`, and so on: a is the answer, m what the lent output holds then. Each theorem is about what these calls
--- returned.
+-- THE PROMISES OF A RECTANGLE'S CALLS. `forward`, `inverse` and `allowance` have the contracts `Gives a m (ruled k forwardCall
+-- (joint c r) x y)`, and so on: k is the number of the rule (request R-5), any number at all; a is the answer, m what the lent
+-- output holds then. Each theorem is about what these calls returned, and has one k throughout.
 use mathlib.Core.List.{List}
 use mathlib.Core.Path.{_≡_}
 use Prim.Native.Nat.{ℕ, _*_, _^_, _<_}
@@ -9,71 +9,85 @@ use lib.ListN.{length}
 use lib.Signed.{_≤ℤ_}
 use Rattle.rules.specs.declared.Answer.{Answer}
 use Rattle.rules.specs.Numbers.{unit, unit², at, count}
-use Rattle.rules.specs.declared.Rule.the-variants.{Nearest}
-use Rattle.rules.specs.Answers.{accepted, pairChecked}
-use Rattle.rules.specs.Calls.{Gives, joint, forwardCall, inverseCall, allowanceCall}
+use Rattle.rules.specs.Answers.{accepted, refused, pairChecked}
+use Rattle.rules.specs.Calls.{Gives, joint, forwardCall, inverseCall, allowanceCall, ruleOf, ruleChecked, under, ruled}
 use Rattle.laws.specs.Stated.Cuts.{cutFront, cutBack, CutLaw}
-use Rattle.laws.specs.CutLaw.{joint-cut}
-use Rattle.laws.specs.Stated.Calls.{E, D, Accepts}
-use Rattle.laws.specs.Promises.{joint-promises, joint-scale, one-answer}
+use Rattle.laws.specs.CutLaw.{joint-cut, ruled-cut}
+use Rattle.laws.specs.Stated.Calls.{E, D, Accepts, Promises}
+use Rattle.laws.specs.Plans.{joint-plan}
+use Rattle.laws.specs.Promises.{ruled-promises, forward-none, inverse-none, allowance-none, joint-scale, one-answer}
 use Rattle.laws.specs.Returned.{returned-back, returned-there, returned-near, returned-difference}
 
 -- ---- one answer and one memory, refusals too
 pub one-forward :
-    (c r x y : List ℤ) {a b : Answer} {m n : List ℤ} →
-    Gives a m (forwardCall Nearest (joint c r) x y) → Gives b n (forwardCall Nearest (joint c r) x y) → (a ≡ b) × (m ≡ n)
-one-forward c r x y = one-answer (forwardCall Nearest (joint c r) x y)
+    (k : ℕ) (c r x y : List ℤ) {a b : Answer} {m n : List ℤ} →
+    Gives a m (ruled k forwardCall (joint c r) x y) → Gives b n (ruled k forwardCall (joint c r) x y) → (a ≡ b) × (m ≡ n)
+one-forward k c r x y = one-answer (ruled k forwardCall (joint c r) x y)
 
 pub one-inverse :
-    (c r x y : List ℤ) {a b : Answer} {m n : List ℤ} →
-    Gives a m (inverseCall Nearest (joint c r) x y) → Gives b n (inverseCall Nearest (joint c r) x y) → (a ≡ b) × (m ≡ n)
-one-inverse c r x y = one-answer (inverseCall Nearest (joint c r) x y)
+    (k : ℕ) (c r x y : List ℤ) {a b : Answer} {m n : List ℤ} →
+    Gives a m (ruled k inverseCall (joint c r) x y) → Gives b n (ruled k inverseCall (joint c r) x y) → (a ≡ b) × (m ≡ n)
+one-inverse k c r x y = one-answer (ruled k inverseCall (joint c r) x y)
 
 pub one-allowance :
-    (c r y : List ℤ) {a b : Answer} {m n : List ℤ} →
-    Gives a m (allowanceCall Nearest (joint c r) y) → Gives b n (allowanceCall Nearest (joint c r) y) → (a ≡ b) × (m ≡ n)
-one-allowance c r y = one-answer (allowanceCall Nearest (joint c r) y)
+    (k : ℕ) (c r y : List ℤ) {a b : Answer} {m n : List ℤ} →
+    Gives a m (ruled k allowanceCall (joint c r) y) → Gives b n (ruled k allowanceCall (joint c r) y) → (a ≡ b) × (m ≡ n)
+one-allowance k c r y = one-answer (ruled k allowanceCall (joint c r) y)
+
+-- ---- "16 for a rule not 0, 1 or 2, place 0, before all others": whatever the sheets are, and whatever is lent stays
+pub no-rule :
+    (k : ℕ) (c r x y : List ℤ) → 2 < k →
+    Gives (refused 16 0 0) y (ruled k forwardCall (joint c r) x y)
+    × Gives (refused 16 0 0) y (ruled k inverseCall (joint c r) x y)
+    × Gives (refused 16 0 0) y (ruled k allowanceCall (joint c r) y)
+no-rule k c r x y h = (forward-none k (joint c r) h x y, inverse-none k (joint c r) h x y, allowance-none k (joint c r) h y)
 
 -- ---- demand 2: "Inverse after an accepted forward run returns the block, and the other way round"
+promised : (k : ℕ) (c r : List ℤ) → Promises (ruleOf k) (under k (joint c r))
+promised k c r = ruled-promises k (joint-plan c r)
+
 pub back-again :
-    (c r x y z : List ℤ) {u m : List ℤ} {a : Answer} → length z ≡ count c 0 * count r 0 →
-    Accepts u (forwardCall Nearest (joint c r) x y) →
-    Gives a m (inverseCall Nearest (joint c r) u z) → (a ≡ accepted) × (m ≡ x)
+    (k : ℕ) (c r x y z : List ℤ) {u m : List ℤ} {a : Answer} → length z ≡ count c 0 * count r 0 →
+    Accepts u (ruled k forwardCall (joint c r) x y) →
+    Gives a m (ruled k inverseCall (joint c r) u z) → (a ≡ accepted) × (m ≡ x)
 unfolding joint
-back-again c r x y z = returned-back (joint-promises Nearest c r) x y z
+back-again k c r x y z = returned-back (promised k c r) x y z
 
 pub there-again :
-    (c r y x z : List ℤ) {u m : List ℤ} {a : Answer} → length z ≡ count c 0 * count r 0 →
-    Accepts u (inverseCall Nearest (joint c r) y x) →
-    Gives a m (forwardCall Nearest (joint c r) u z) → (a ≡ accepted) × (m ≡ y)
+    (k : ℕ) (c r y x z : List ℤ) {u m : List ℤ} {a : Answer} → length z ≡ count c 0 * count r 0 →
+    Accepts u (ruled k inverseCall (joint c r) y x) →
+    Gives a m (ruled k forwardCall (joint c r) u z) → (a ≡ accepted) × (m ≡ y)
 unfolding joint
-there-again c r y x z = returned-there (joint-promises Nearest c r) y x z
+there-again k c r y x z = returned-there (promised k c r) y x z
 
 -- ---- demand 3: "4096·|D·y - E| ≤ D·b", D = 4096^(2K) = 16777216^K by `joint-scale`
 pub within-allowance :
-    (c r x y z : List ℤ) {u b : List ℤ} → Accepts b (allowanceCall Nearest (joint c r) z) →
-    Accepts u (forwardCall Nearest (joint c r) x y) →
+    (k : ℕ) (c r x y z : List ℤ) {u b : List ℤ} → Accepts b (ruled k allowanceCall (joint c r) z) →
+    Accepts u (ruled k forwardCall (joint c r) x y) →
     (e : ℕ) → e < count c 0 * count r 0 →
     pos (unit * natAbs ((pos (D (joint c r)) *ℤ at u e) -ℤ at (E (joint c r) x) e)) ≤ℤ (pos (D (joint c r)) *ℤ at b e)
-within-allowance c r x y z g h e l = returned-near (joint-promises Nearest c r) x y z g h e (sized l)
+within-allowance k c r x y z g h e l = returned-near (promised k c r) x y z g h e (sized l)
   where
     sized : e < count c 0 * count r 0 → e < joint c r .size
-    sized k = unfold joint in k
+    sized o = unfold joint in o
 
 pub scale : (c r : List ℤ) → pairChecked c r .number ≡ 0 → D (joint c r) ≡ unit² ^ count c 1
 scale = joint-scale
 
 -- "4096·|F(x) - F(z) - F(x-z)| ≤ 3·b", where u is x - z element by element
 pub difference :
-    (c r x z u y₁ y₂ y₃ y₄ : List ℤ) {fx fz fu b : List ℤ} → ((e : ℕ) → e < count c 0 * count r 0 → at u e ≡ at x e -ℤ at z e) →
-    Accepts b (allowanceCall Nearest (joint c r) y₁) → Accepts fx (forwardCall Nearest (joint c r) x y₂) →
-    Accepts fz (forwardCall Nearest (joint c r) z y₃) → Accepts fu (forwardCall Nearest (joint c r) u y₄) →
+    (k : ℕ) (c r x z u y₁ y₂ y₃ y₄ : List ℤ) {fx fz fu b : List ℤ} →
+    ((e : ℕ) → e < count c 0 * count r 0 → at u e ≡ at x e -ℤ at z e) →
+    Accepts b (ruled k allowanceCall (joint c r) y₁) → Accepts fx (ruled k forwardCall (joint c r) x y₂) →
+    Accepts fz (ruled k forwardCall (joint c r) z y₃) → Accepts fu (ruled k forwardCall (joint c r) u y₄) →
     (e : ℕ) → e < count c 0 * count r 0 → pos (unit * natAbs ((at fx e -ℤ at fz e) -ℤ at fu e)) ≤ℤ (pos 3 *ℤ at b e)
 unfolding joint
-difference c r x z u y₁ y₂ y₃ y₄ = returned-difference (joint-promises Nearest c r) x z u y₁ y₂ y₃ y₄
+difference k c r x z u y₁ y₂ y₃ y₄ = returned-difference (promised k c r) x z u y₁ y₂ y₃ y₄
 
--- the cut law: both sheets cut at one position, the parts run one after the other, give what the whole gives, refusals 11 too
+-- the cut law: both sheets cut at one position, the parts run one after the other by the rule of the whole, give what the whole
+-- gives, refusals 11 too
 pub cut :
-    (c r : List ℤ) (f : ℕ) → pairChecked c r .number ≡ 0 → 0 < f → f < count c 1 →
-    CutLaw Nearest (joint c r) (joint (cutFront c f) (cutFront r f)) (joint (cutBack c f) (cutBack r f)) f
-cut = joint-cut Nearest
+    (k : ℕ) (c r : List ℤ) (f : ℕ) → ruleChecked k .number ≡ 0 → pairChecked c r .number ≡ 0 → 0 < f → f < count c 1 →
+    CutLaw (ruleOf k) (under k (joint c r)) (under k (joint (cutFront c f) (cutFront r f)))
+    (under k (joint (cutBack c f) (cutBack r f))) f
+cut k c r f n h some not-all = ruled-cut k n (joint-cut (ruleOf k) c r f h some not-all)

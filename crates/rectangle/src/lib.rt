@@ -1,15 +1,15 @@
 // The rectangle: forward, inverse and allowance runs of a block of n1 rows by n2 numbers over a column sheet and a row sheet. The
 // calls ask nothing of their callers: whatever is lent is answered, and a refused call leaves the output as it was.
-ghost use Rattle.rules.specs.Calls.{Gives, joint, forwardCall, inverseCall, allowanceCall};
-ghost use Rattle.factor.specs.Tasks.{callOf};
+ghost use Rattle.rules.specs.Calls.{Gives, joint, ruled, forwardCall, inverseCall, allowanceCall};
+ghost use Rattle.factor.specs.Tasks.{callBy, callOf};
 ghost use Rattle.factor.specs.CallAnswers.{NoneLent};
 use factor::lengths::check_lengths;
 use factor::run::Run;
 use factor::run::Task;
-use factor::run::nearest;
+use factor::run::check_rule;
+use factor::run::run_by;
 use rectanglerun::block::run_block;
 use rules::Answer;
-use rules::Rule;
 use rules::Sheet;
 use sheetcheck::checks::check_pair_starts;
 use sheetread::factors::count_at;
@@ -34,26 +34,39 @@ fn call(run: Run, col: &[i32], row: &[i32], x: &[i32], y: &mut [i32]) -> Answer
     run_block(run, col, row, &columns, &rows, x, y)
 }
 
-// Forward: x through the pairs of factors, first to last, into y.
-pub fn forward(col: &[i32], row: &[i32], x: &[i32], y: &mut [i32]) -> Answer
+// 16, then the call by that rule.
+fn call_by(task: Task, rule: u32, col: &[i32], row: &[i32], x: &[i32], y: &mut [i32]) -> Answer
+    requires { ⌜ NoneLent task (now x) ⌝ }
     ensures { λ a. ⌜ Gives a (now (y .exit))
-        (forwardCall Rule.Nearest (joint (now (col .entry)) (now (row .entry))) (now (x .entry)) (now (y .entry))) ⌝ }
+        (ruled rule (callBy task) (joint (now (col .entry)) (now (row .entry))) (now (x .entry)) (now (y .entry))) ⌝ }
 {
-    call(nearest(Task::Forward), col, row, x, y)
+    let a = check_rule(rule);
+    if a.number != 0 {
+        return a;
+    }
+    call(run_by(task, rule), col, row, x, y)
+}
+
+// Forward: x through the pairs of factors, first to last, into y.
+pub fn forward(rule: u32, col: &[i32], row: &[i32], x: &[i32], y: &mut [i32]) -> Answer
+    ensures { λ a. ⌜ Gives a (now (y .exit))
+        (ruled rule forwardCall (joint (now (col .entry)) (now (row .entry))) (now (x .entry)) (now (y .entry))) ⌝ }
+{
+    call_by(Task::Forward, rule, col, row, x, y)
 }
 
 // Inverse: x back through the pairs of factors, last to first, into y.
-pub fn inverse(col: &[i32], row: &[i32], x: &[i32], y: &mut [i32]) -> Answer
+pub fn inverse(rule: u32, col: &[i32], row: &[i32], x: &[i32], y: &mut [i32]) -> Answer
     ensures { λ a. ⌜ Gives a (now (y .exit))
-        (inverseCall Rule.Nearest (joint (now (col .entry)) (now (row .entry))) (now (x .entry)) (now (y .entry))) ⌝ }
+        (ruled rule inverseCall (joint (now (col .entry)) (now (row .entry))) (now (x .entry)) (now (y .entry))) ⌝ }
 {
-    call(nearest(Task::Inverse), col, row, x, y)
+    call_by(Task::Inverse, rule, col, row, x, y)
 }
 
 // The allowances of the forward run's coefficients, into y. They start at 0: no numbers are lent.
-pub fn allowance(col: &[i32], row: &[i32], y: &mut [i32]) -> Answer
+pub fn allowance(rule: u32, col: &[i32], row: &[i32], y: &mut [i32]) -> Answer
     ensures { λ a. ⌜ Gives a (now (y .exit))
-        (allowanceCall Rule.Nearest (joint (now (col .entry)) (now (row .entry))) (now (y .entry))) ⌝ }
+        (ruled rule allowanceCall (joint (now (col .entry)) (now (row .entry))) (now (y .entry))) ⌝ }
 {
-    call(nearest(Task::Allowance), col, row, &col[0..0], y)
+    call_by(Task::Allowance, rule, col, row, &col[0..0], y)
 }

@@ -21,6 +21,8 @@ use factor::layout_at;
 use factor::run::Outcome;
 use factor::run::Run;
 use factor::run::Task;
+use factor::run::is_down;
+use factor::run::is_even;
 use pairmoves::move_pair;
 use rules::Block;
 use rules::Kind;
@@ -53,18 +55,20 @@ pub fn run_stage(
         move_pair(col, fa, row, fb, task, x);
         return Outcome { ok: true, stage: 0 };
     }
+    let down = is_down(rule);
+    let even = is_even(rule);
     let kind = fb.kind;
     match task {
         Task::Forward => match kind {
-            Kind::Lower => return apply_lower_rows(rule, col, fa, row, fb, x),
-            Kind::Upper => return apply_upper_rows(rule, col, fa, row, fb, x),
-            Kind::Single => return apply_single_rows(rule, col, fa, row, fb, x),
+            Kind::Lower => return apply_lower_rows(down, even, col, fa, row, fb, x),
+            Kind::Upper => return apply_upper_rows(down, even, col, fa, row, fb, x),
+            Kind::Single => return apply_single_rows(down, even, col, fa, row, fb, x),
             Kind::Permutation => return Outcome { ok: true, stage: 0 }
         },
         Task::Inverse => match kind {
-            Kind::Lower => return undo_lower_rows(rule, col, fa, row, fb, x),
-            Kind::Upper => return undo_upper_rows(rule, col, fa, row, fb, x),
-            Kind::Single => return undo_single_rows(rule, col, fa, row, fb, x),
+            Kind::Lower => return undo_lower_rows(down, even, col, fa, row, fb, x),
+            Kind::Upper => return undo_upper_rows(down, even, col, fa, row, fb, x),
+            Kind::Single => return undo_single_rows(down, even, col, fa, row, fb, x),
             Kind::Permutation => return Outcome { ok: true, stage: 0 }
         },
         Task::Allowance => return allow_rows(rule, col, fa, row, fb, x),

@@ -10,6 +10,7 @@ use Rattle.rules.specs.declared.Answer.{Answer}
 use Rattle.rules.specs.Numbers.{count}
 use Rattle.rules.specs.Factors.{factors}
 use Rattle.rules.specs.declared.Rule.{Rule}
+use Rattle.rules.specs.declared.Rule.the-variants.{Nearest, Down, Even}
 use Rattle.rules.specs.Stages.{Stage, Ran, done, beyond, runForward, runInverse, runAllowance}
 use Rattle.rules.specs.Shapes.{lineStages, jointStages}
 use Rattle.rules.specs.Recipes.{packed, numbersOf, leftOf}
@@ -78,7 +79,7 @@ writeTable table room = reply (fitting (length table) (length room)) (over table
 
 -- ---- runs: what they take from their sheets
 pub record Plan : Type 0 where
-  -- the sheets' own answer, 1 to 9 and 12
+  -- the sheets' own answer, 1 to 9 and 12; before it 16, where the rule is a number
   pub sheets : Answer
   -- how many numbers a block has
   pub size : ℕ
@@ -93,6 +94,28 @@ joint c r = record {
   size = count c 0 * count r 0;
   stages = jointStages (count c 0) (count r 0) (factors c) (factors r);
 }
+
+-- request R-5: "0 as today, 1 floor, 2 nearest with halves to even": the number of each rule
+unfoldable pub ruleNumber : Rule → ℕ
+ruleNumber Nearest = 0
+ruleNumber Down = 1
+ruleNumber Even = 2
+
+-- and the rule of each number; of a number that is no rule's it does not matter, since 16 refuses it
+unfoldable pub ruleOf : ℕ → Rule
+ruleOf k = cond (eqb k 1) Down (cond (eqb k 2) Even Nearest)
+
+-- "16 for a rule not 0, 1 or 2, place 0, before all others"
+abbrev pub ruleChecked : ℕ → Answer
+ruleChecked k = cond (leb k 2) accepted (refused 16 0 0)
+
+-- the plan of a call by the number k of a rule
+abbrev pub under : ℕ → Plan → Plan
+under k p = record { sheets = ruleChecked k or-else p .sheets; size = p .size; stages = p .stages }
+
+-- "Each run and allowance takes the rule as a number beside the sheets": a call over that plan by that rule
+abbrev pub ruled : {X : Type 0} → ℕ → (Rule → Plan → X) → Plan → X
+ruled k call p = call (ruleOf k) (under k p)
 
 -- 10: "slice length is not n, or n1·n2"; "Side is 1 .. for the output"
 abbrev pub sized : {A : Type 0} → ℕ → ℕ → List A → Answer

@@ -1,7 +1,7 @@
 -- "FIGURES TO PROVE" of document 01: cases a to h as one table, checked once against the definitions by computation.
-use mathlib.Core.List.{List, [], _∷_, map}
+use mathlib.Core.List.{List, [], _∷_, _++_, map}
 use mathlib.Core.Path.{_≡_, refl}
-use Prim.Native.Nat.{ℕ}
+use Prim.Native.Nat.{ℕ, _+_, _-_, _*_}
 use lib.IntN.{ℤ, pos, negℤ}
 use lib.ListN.{replicate}
 use Rattle.whole.specs.Stated.{sum}
@@ -13,8 +13,9 @@ use Rattle.rules.specs.Sheets.{go, times, among, faultOf, one, kindOf, t
 use Rattle.rules.specs.Sheets.{reading}
 use Rattle.rules.specs.Factors.{Factor, numbers, signsAt, above, entriesBefore, factorAt, factorsFrom, factors, hasEntry}
 use Rattle.rules.specs.Factors.{matrix}
-use Rattle.rules.specs.declared.Rule.the-variants.{Nearest}
-use Rattle.rules.specs.Stages.{R, share, ceiling, fill, inside, off, weighed, multiples, putBack, forward, recover, undo}
+use Rattle.rules.specs.declared.Rule.the-variants.{Nearest, Down, Even}
+use Rattle.rules.specs.Stages.{toEven, R, share, ceiling, fill, inside, off, weighed, multiples, putBack, forward, recover}
+use Rattle.rules.specs.Stages.{undo}
 use Rattle.rules.specs.Stages.{allow, later, run, runForward, runInverse, runAllowance}
 use Rattle.rules.specs.Shapes.{those, byTurn, turn, order, inRow, stageOf, lineStage, lineStages, jointSource, jointSign}
 use Rattle.rules.specs.Shapes.{jointWeight, jointShared, jointStage, jointStages}
@@ -22,7 +23,7 @@ use Rattle.rules.specs.Recipes.{code, value, spell, group, groups, packe
 use Rattle.rules.specs.Answers.{_or-else_, accepted, counted, refused, further, first, matching, pairChecked}
 use Rattle.rules.specs.Strips.{StripReply, stripAnswer, outputs, bytesOf, strip}
 use Rattle.rules.specs.Calls.{Reply, reply, read, write, builtIn, firstPrinting, writeTable, line, joint, ranAnswer}
-use Rattle.rules.specs.Calls.{ranMemory, runReply, forwardCall, inverseCall, allowanceCall}
+use Rattle.rules.specs.Calls.{ranMemory, runReply, forwardCall, inverseCall, allowanceCall, ruleOf, ruled}
 
 -- what a case shows, and what document 01 prints for it
 pub data Shown : Type 0 where
@@ -93,6 +94,13 @@ d = pos 3 ∷ pos 1 ∷ pos 4 ∷ pos 1 ∷ pos 1 ∷ neg 1 ∷ pos 1 ∷ pos 40
 abbrev pub e : List ℤ
 e = pos 2 ∷ pos 1 ∷ pos 2 ∷ pos 1 ∷ pos 1 ∷ pos 4096 ∷ []
 
+-- R-5: "long chains drift upward": a half of the first number added to the second and taken off again, four times
+abbrev there-and-off : List ℤ
+there-and-off = pos 2 ∷ pos 1 ∷ pos 1 ∷ pos 2048 ∷ pos 2 ∷ pos 1 ∷ pos 1 ∷ neg 2048 ∷ []
+
+abbrev drifting : List ℤ
+drifting = pos 2 ∷ pos 8 ∷ there-and-off ++ there-and-off ++ there-and-off ++ there-and-off
+
 pub table : List Figure
 table =
     -- a: "(3,5) to (3,7); (-2,5) to (-2,4); (-1,5) to (-1,5); bytes 04 02 04 02 02 80 20; allowance 0, 2048"
@@ -153,6 +161,27 @@ table =
     ∷ strips (nines 3) (nines 3) [] (refused 10 0 0) (nines 3) []
     ∷ strips (nines 3) (nines 4) [] (refused 10 0 0) (nines 4) []
     ∷ strips (nines 4) (nines 4) [] (refused 10 1 0) (nines 4) []
+    -- R-5: halves above and below zero under rules 0, 1 and 2; a pair; back; the share of rule 1; 16 before a sheet's own fault
+    ∷ gives (ruled 0 forwardCall (line a) (two (pos 1) (pos 5)) found₂) accepted (two (pos 1) (pos 6))
+    ∷ gives (ruled 1 forwardCall (line a) (two (pos 1) (pos 5)) found₂) accepted (two (pos 1) (pos 5))
+    ∷ gives (ruled 2 forwardCall (line a) (two (pos 1) (pos 5)) found₂) accepted (two (pos 1) (pos 5))
+    ∷ gives (ruled 2 forwardCall (line a) (two (pos 3) (pos 5)) found₂) accepted (two (pos 3) (pos 7))
+    ∷ gives (ruled 0 forwardCall (line a) (two (neg 3) (pos 5)) found₂) accepted (two (neg 3) (pos 4))
+    ∷ gives (ruled 1 forwardCall (line a) (two (neg 3) (pos 5)) found₂) accepted (two (neg 3) (pos 3))
+    ∷ gives (ruled 2 forwardCall (line a) (two (neg 3) (pos 5)) found₂) accepted (two (neg 3) (pos 3))
+    ∷ gives (ruled 2 forwardCall (line a) (two (neg 1) (pos 5)) found₂) accepted (two (neg 1) (pos 5))
+    -- (0,1) has 1 of its own and a half beside it, which goes to 0; 1 and a half together would go to 2
+    ∷ gives (ruled 2 forwardCall (joint a a) (four (pos 1) (pos 1) (pos 0) (pos 0)) found₄) accepted
+    (four (pos 1) (pos 1) (pos 0) (pos 1))
+    ∷ gives (ruled 1 inverseCall (joint a a) (four (pos 1) (pos 1) (pos 1) (pos 1)) found₄) accepted
+    (four (pos 1) (pos 1) (pos 1) (pos 0))
+    ∷ gives (ruled 0 forwardCall (line drifting) (two (pos 1) (pos 0)) found₂) accepted (two (pos 1) (pos 4))
+    ∷ gives (ruled 1 forwardCall (line drifting) (two (pos 1) (pos 0)) found₂) accepted (two (pos 1) (neg 4))
+    ∷ gives (ruled 2 forwardCall (line drifting) (two (pos 1) (pos 0)) found₂) accepted (two (pos 1) (pos 0))
+    ∷ gives (ruled 1 allowanceCall (line a) found₂) accepted (two (pos 0) (pos 4096))
+    ∷ gives (ruled 2 allowanceCall (line a) found₂) accepted (two (pos 0) (pos 2048))
+    ∷ gives (ruled 3 forwardCall (line []) [] found₂) (refused 16 0 0) found₂
+    ∷ gives (ruled 4294967295 allowanceCall (joint [] a) found₂) (refused 16 0 0) found₂
     -- h: "entry 16384 is bytes 80 80 02; bytes 84 00 are refused 14"
     ∷ record { found = bytes (written (pos 16384)); printed = bytes (0x80 ∷ 0x80 ∷ 0x02 ∷ []) }
     ∷ gives (read (0x84 ∷ 0x00 ∷ []) found₂) (refused 14 0 0) found₂
@@ -161,11 +190,12 @@ table =
 -- every case shows what document 01 prints
 pub figures : map (λ (f : Figure). f .found) table ≡ map (λ (f : Figure). f .printed) table
 unfolding table sum go times among faultOf one kindOf triangle weights body factor closed head reading numbers signsAt above
-    entriesBefore factorAt factorsFrom factors hasEntry matrix R share ceiling fill inside off weighed multiples putBack forward
+    entriesBefore factorAt factorsFrom factors hasEntry matrix toEven R share ceiling fill inside off weighed multiples putBack
+    forward
     recover undo allow later run runForward runInverse runAllowance those byTurn turn order inRow stageOf lineStage lineStages
     jointSource jointSign jointWeight jointShared jointStage jointStages code value spell group groups packed unpack left
     _or-else_ further first matching pairChecked reply read write writeTable line joint ranAnswer ranMemory runReply forwardCall
-    inverseCall allowanceCall stripAnswer outputs bytesOf strip
+    inverseCall allowanceCall ruleOf stripAnswer outputs bytesOf strip
 figures = refl
 
 -- the recovery orders of a rectangle of three by three, kind 4 with rows 1 and 2
@@ -183,11 +213,28 @@ pub orders : map orderOf (Lower ∷ Upper ∷ Single ∷ []) ≡
 unfolding those byTurn turn order inRow jointShared
 orders = refl
 
--- "The quotient is a floor, also below zero": sums around zero, at the scale of a line and at that of a rectangle
+-- "The quotient is a floor, also below zero": sums just below, at and just above a half, on both sides of zero, by each rule, at
+-- the scale of a line and at that of a rectangle
+abbrev halves : ℕ → List ℤ
+halves h =
+    neg (3 * h + 1) ∷ neg (3 * h) ∷ neg (3 * h - 1) ∷ neg (h + 1) ∷ neg h ∷ neg (h - 1) ∷ pos 0 ∷ pos (h - 1) ∷ pos h
+    ∷ pos (h + 1) ∷ pos (3 * h - 1) ∷ pos (3 * h) ∷ pos (3 * h + 1) ∷ []
+
+abbrev upward : List ℤ
+upward =
+    neg 2 ∷ neg 1 ∷ neg 1 ∷ neg 1 ∷ pos 0 ∷ pos 0 ∷ pos 0 ∷ pos 0 ∷ pos 1 ∷ pos 1 ∷ pos 1 ∷ pos 2 ∷ pos 2 ∷ []
+
+abbrev downward : List ℤ
+downward =
+    neg 2 ∷ neg 2 ∷ neg 2 ∷ neg 1 ∷ neg 1 ∷ neg 1 ∷ pos 0 ∷ pos 0 ∷ pos 0 ∷ pos 0 ∷ pos 1 ∷ pos 1 ∷ pos 1 ∷ []
+
+abbrev toEvens : List ℤ
+toEvens =
+    neg 2 ∷ neg 2 ∷ neg 1 ∷ neg 1 ∷ pos 0 ∷ pos 0 ∷ pos 0 ∷ pos 0 ∷ pos 0 ∷ pos 1 ∷ pos 1 ∷ pos 2 ∷ pos 2 ∷ []
+
 pub roundings :
-    (map (R Nearest unit) (neg 6145 ∷ neg 6144 ∷ neg 2049 ∷ neg 2048 ∷ neg 1 ∷ pos 0 ∷ pos 2047 ∷ pos 2048 ∷ []) ≡
-    neg 2 ∷ neg 1 ∷ neg 1 ∷ pos 0 ∷ pos 0 ∷ pos 0 ∷ pos 0 ∷ pos 1 ∷ [])
-    × (map (R Nearest unit²) (neg 8388609 ∷ neg 8388608 ∷ neg 1 ∷ pos 0 ∷ pos 8388607 ∷ pos 8388608 ∷ []) ≡
-    neg 1 ∷ pos 0 ∷ pos 0 ∷ pos 0 ∷ pos 0 ∷ pos 1 ∷ [])
-unfolding R
-roundings = (refl, refl)
+    (map (R Nearest unit) (halves 2048) ≡ upward) × (map (R Nearest unit²) (halves 8388608) ≡ upward)
+    × (map (R Down unit) (halves 2048) ≡ downward) × (map (R Down unit²) (halves 8388608) ≡ downward)
+    × (map (R Even unit) (halves 2048) ≡ toEvens) × (map (R Even unit²) (halves 8388608) ≡ toEvens)
+unfolding toEven R
+roundings = (refl, refl, refl, refl, refl, refl)

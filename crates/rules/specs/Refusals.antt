@@ -16,7 +16,7 @@ use Rattle.rules.specs.Shapes.{those, byTurn, turn, order, inRow, stageO
 use Rattle.rules.specs.Recipes.{code, value, spell, group, groups, packed, unpack, left}
 use Rattle.rules.specs.Answers.{_or-else_, accepted, refused, checked, further, first, matching, pairChecked}
 use Rattle.rules.specs.Calls.{reply, read, write, line, joint, ranAnswer, ranMemory, runReply, forwardCall, inverseCall}
-use Rattle.rules.specs.Calls.{allowanceCall}
+use Rattle.rules.specs.Calls.{allowanceCall, ruled}
 use Rattle.rules.specs.Figures.{Figure, answer-of, gives, spells, neg, two, found₂, found₄, a, a-bytes, b, d, e}
 
 -- what the check of a sheet answers, and that of a column and a row sheet
@@ -141,6 +141,13 @@ table =
     -- "the writer 1 to 9, then 15", at "the count needed"
     ∷ spells (write (a ++ (pos 0 ∷ [])) []) (refused 9 0 6) []
     ∷ spells (write a (1 ∷ 1 ∷ [])) (refused 15 0 7) (1 ∷ 1 ∷ [])
+    -- 16, request R-5: "16 for a rule not 0, 1 or 2, place 0, before all others": with 1, 12, 10 for the output, 11 and 13
+    ∷ gives (ruled 2 forwardCall (line []) [] []) (refused 1 0 0) []
+    ∷ gives (ruled 3 forwardCall (line []) [] []) (refused 16 0 0) []
+    ∷ gives (ruled 4 inverseCall (joint a d) (two (pos 1) (pos 2)) found₂) (refused 16 0 0) found₂
+    ∷ gives (ruled 256 forwardCall (line a) (two (pos 1) (pos 2)) found₄) (refused 16 0 0) found₄
+    ∷ gives (ruled 65536 inverseCall (line e) (two (pos 16777216) (pos 0)) found₂) (refused 16 0 0) found₂
+    ∷ gives (ruled 4294967295 allowanceCall (line (growing (pos 16384) (pos 16384))) found₂) (refused 16 0 0) found₂
     ∷ []
 
 -- every case answers what document 01 says

@@ -3,29 +3,49 @@
 -- N numbers go through a list of stages: N is n for a line, n1·n2 for a rectangle in reading order.
 use mathlib.Core.Bool.{Bool, true, false, cond}
 use mathlib.Core.List.{List, [], _∷_, reverse}
-use Prim.Native.Nat.{ℕ, zero, suc, _+_, _-_, _*_, _/_, _%_}
+use mathlib.Core.Path.{_≡_}
+use Prim.Native.Nat.{ℕ, zero, suc, _+_, _-_, _*_, _/_, _%_, _≤_}
 use lib.Dec.{eqb, leb}
 use lib.IntN.{ℤ, pos, natAbs, _+ℤ_, _-ℤ_, _*ℤ_}
 use lib.ListN.{set, replicate}
 use lib.Signed.{shrZ, _≤ℤ_, _<ℤ_}
 use Rattle.whole.specs.Stated.{sum}
 use Rattle.rules.specs.declared.Rule.{Rule}
-use Rattle.rules.specs.declared.Rule.the-variants.{Nearest}
+use Rattle.rules.specs.declared.Rule.the-variants.{Nearest, Down, Even}
 use Rattle.rules.specs.Numbers.{bound, mostAllowance, at}
 
 -- ---- the rounding
--- document 01 has one rule, "nearest, halves upward"; `shrZ s m` is the floor of s / m, also below zero
--- "R(s) is the floor of (s + 2048)/4096", "R2(s) is the floor of (s + 8388608)/16777216": one function of the scale S
+-- request R-5: "The rounding step takes a rule: 0 as today, 1 floor, 2 nearest with halves to even". S is the scale, 4096 or
+-- 16777216, and `shrZ s S` is the floor of s / S, also below zero.
+abbrev pub isEven : ℤ → Bool
+isEven q = eqb (natAbs q % 2) 0
+
+-- a sum s whose floor is q: at a half the even one of q and q + 1; else below a half q, above it q + 1
+unfoldable pub toEven : ℕ → ℤ → ℤ → ℤ
+toEven S s q =
+    let twice = 2 * natAbs (s -ℤ (pos S *ℤ q)) in
+    cond (eqb twice S) (cond (isEven q) q (q +ℤ pos 1)) (cond (leb twice S) q (q +ℤ pos 1))
+
+-- 0: "R(s) is the floor of (s + 2048)/4096", "R2(s) is the floor of (s + 8388608)/16777216"; 1: "floor"; 2: "nearest with halves
+-- to even"
 unfoldable pub R : Rule → ℕ → ℤ → ℤ
 R Nearest S s = shrZ (s +ℤ pos (S / 2)) S
+R Down S s = shrZ s S
+R Even S s = toEven S s (shrZ s S)
 
--- "The quotient is a floor, also below zero": what that means of r, with no division. S·r ≤ s + S/2 < S·r + S
+-- "The quotient is a floor, also below zero": what that means of r, with no division. 0: S·r ≤ s + S/2 < S·r + S. 1: S·r ≤ s <
+-- S·r + S. 2: r is within a half of s / S, and even if it is off by a half
 unfoldable pub Rounds : Rule → ℕ → ℤ → ℤ → Type 0
 Rounds Nearest S s r = ((pos S *ℤ r) ≤ℤ (s +ℤ pos (S / 2))) × ((s +ℤ pos (S / 2)) <ℤ ((pos S *ℤ r) +ℤ pos S))
+Rounds Down S s r = ((pos S *ℤ r) ≤ℤ s) × (s <ℤ ((pos S *ℤ r) +ℤ pos S))
+Rounds Even S s r =
+    (2 * natAbs (s -ℤ (pos S *ℤ r)) ≤ S) × (2 * natAbs (s -ℤ (pos S *ℤ r)) ≡ S → isEven r ≡ true)
 
--- what one rounding adds to an allowance
+-- what one rounding adds to an allowance: "the 2048 added for rounding is 4096 under rule 1"
 unfoldable pub share : Rule → ℕ
 share Nearest = 2048
+share Down = 4096
+share Even = 2048
 
 -- the quotient s / S upward
 unfoldable pub ceiling : ℕ → ℤ → ℤ

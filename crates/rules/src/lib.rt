@@ -67,6 +67,9 @@ impl Scale {
     pub const JOINT_HALF: i64 = Self::JOINT / 2;
 
     pub const JOINT_UP: i64 = Self::JOINT - 1;
+
+    // A shift by one bit halves.
+    pub const PAIR_BITS: i64 = 1;
 }
 
 // The four kinds of factor.
@@ -77,14 +80,19 @@ pub enum Kind {
     Single,
 }
 
-// The rule by which a sum is rounded. Document 01 has one: to the nearest whole number, halves upward.
+// The rule by which a sum is rounded: to the nearest whole number with halves upward, as document 01 has it; downward; to the
+// nearest with halves to the even one.
 pub enum Rule {
     Nearest,
+    Down,
+    Even,
 }
 
 impl Rule {
-    // What one rounding adds to an allowance, counted in 1/4096.
+    // What one rounding adds to an allowance, counted in 1/4096: to the nearest a half, downward a whole.
     pub const SHARE: i64 = 2048;
+
+    pub const SHARE_DOWN: i64 = 2 * Self::SHARE;
 }
 
 // What a number of a sheet stands for: with a row or a place the order, and with a place where its permutation starts.

@@ -26,15 +26,15 @@ fn blank() -> [i32; LIMIT]
     [0; LIMIT]
 }
 
-// The inverse of y and the allowance; z is lent as output.
+// The inverse of y and the allowance, by rule 0 as all that the program prints; z is lent as output.
 fn put_afterwards(s: &[i32], y: &[i32], z: &mut [i32], out: &mut [u8], i: usize) -> usize
     requires { ⌜ i ≤ length (now out) ⌝ }
     ensures { λ r. ⌜ Wrote (now (out .entry)) i (afterwards (now (s .entry)) (now (y .entry)) (now (z .entry)))
         (now (out .exit)) r ⌝ }
 {
-    let back = line::inverse(s, y, z);
+    let back = line::inverse(0, s, y, z);
     let j = put_reply(out, i, b"back", back, z);
-    let allowed = line::allowance(s, z);
+    let allowed = line::allowance(0, s, z);
     put_reply(out, j, b"allow", allowed, z)
 }
 
@@ -43,7 +43,7 @@ fn put_runs(s: &[i32], x: &[i32], y: &mut [i32], z: &mut [i32], out: &mut [u8]) 
     ensures { λ r. ⌜ Wrote (now (out .entry)) 0 (ran (now (s .entry)) (now (x .entry)) (now (y .entry)) (now (z .entry)))
         (now (out .exit)) r ⌝ }
 {
-    let there = line::forward(s, x, y);
+    let there = line::forward(0, s, x, y);
     let i = put_reply(out, 0, b"forward", there, y);
     if there.number != 0 {
         return i;

@@ -7,20 +7,18 @@ use native.Mathlib.Nat as NatL
 use native.Mathlib.Omega.{arith}
 use borrow.Author.Tests.{ne-eqb}
 use lib.IntN.{ℤ, pos, _+ℤ_, _-ℤ_, _*ℤ_, +ℤ-idl, +ℤ-idr}
-use lib.Signed.{_≤ℤ_, _<ℤ_, shrZ}
 use lib.ListN.{length, replicate}
-use Rattle.whole.specs.Diff.{lia, lin, given₂, Within}
+use Rattle.whole.specs.Diff.{lia, lin, Within}
 use Rattle.whole.specs.Stated.{Sign, sum}
 use Rattle.whole.specs.Laws.{signs-times, distrib, mul-left-comm, mul-add}
-use Rattle.whole.specs.Floor.{shr-lo, shr-hi, shr-unique}
 use Rattle.whole.specs.Machine.{within-sign, within-le, within-*}
 use Rattle.whole.specs.Sum.{sum-cong, sum-scale, sum-within}
 use Rattle.rules.specs.declared.Kind.the-variants.{Single}
 use Rattle.rules.specs.declared.Rule.{Rule}
-use Rattle.rules.specs.declared.Rule.the-variants.{Nearest}
 use Rattle.rules.specs.Numbers.{mostOrder, mostCells, mostEntry, unit, unit², bound, at}
 use Rattle.rules.specs.Stages.{R}
 use Rattle.rules.specs.Laws.Lists.{fill-at}
+use Rattle.rules.specs.Laws.Rounding.{rounds-scaled, rounds-nothing}
 use Rattle.factor.specs.declared.Layout.{Layout}
 use Rattle.factor.specs.declared.Row.{Row}
 use Rattle.factor.specs.Layouts.{row, rowBy, rowOf}
@@ -99,24 +97,9 @@ module _ {w x : List ℤ} {k n : ℕ} {d : ℤ} (t : Narrow w x k n) (g : Sign d
   turned-sum-small = within-sign g (narrow-small t n (NatL.le-refl n))
 
   pub rounded-sum-small : (rule : Rule) → Within (mostBeside + 2048) (R rule unit (d *ℤ narrowSum w x k n))
-  rounded-sum-small rule = rounded-within rule unit turned-sum-small
+  rounded-sum-small rule = rounded-within rule unit (omega arith) (omega arith) turned-sum-small
 
--- ---- a sum of one scale rounds as that of two
-pub rounds-scaled : (rule : Rule) (t : ℤ) → R rule unit² (pos unit *ℤ t) ≡ R rule unit t
-unfolding R
-rounds-scaled Nearest t =
-    go (shrZ (t +ℤ pos 2048) 4096) (shr-lo (t +ℤ pos 2048) 4096 (omega arith)) (shr-hi (t +ℤ pos 2048) 4096 (omega arith))
-  where
-    go : (q : ℤ) → (pos 4096 *ℤ q) ≤ℤ (t +ℤ pos 2048) → (t +ℤ pos 2048) <ℤ (pos 4096 *ℤ q +ℤ pos 4096) →
-        shrZ (pos 4096 *ℤ t +ℤ pos 8388608) 16777216 ≡ q
-    go q lo hi =
-        shr-unique (pos 4096 *ℤ t +ℤ pos 8388608) 16777216 q (given₂ lo hi (simp lia (omega arith)))
-        (given₂ lo hi (simp lia (omega arith)))
-
-rounds-nothing : (rule : Rule) → R rule unit (pos 0) ≡ pos 0
-unfolding R
-rounds-nothing Nearest = refl
-
+-- ---- nothing, taken off or added
 mul-zero : (z : ℤ) → z *ℤ pos 0 ≡ pos 0
 mul-zero z = simp lia (omega arith)
 
@@ -200,7 +183,8 @@ module _ (c : List ℤ) (fa : Layout) (i : ℕ) (single : fa .kind ≡ Single) (
     no-rounding : (rule : Rule) → R rule unit (d *ℤ besideSum s fb j k x) ≡ pos 0
     unfolding besideSum
     no-rounding rule =
-        rw (one-row fb single′ j beside′, no-sum s (fb .entries) j (λ m. at x (k + m)), mul-zero d) (rounds-nothing rule)
+        rw (one-row fb single′ j beside′, no-sum s (fb .entries) j (λ m. at x (k + m)), mul-zero d) (rounds-nothing rule unit
+        (omega arith))
 
     pub applied-corner : (rule : Rule) →
         appliedOf rule c fa s fb x (i * fb .order + j) ≡ (signAt c fa i *ℤ signAt s fb j) *ℤ at x (i * fb .order + j)

@@ -15,6 +15,7 @@ ghost use Rattle.rules.specs.Stages.{R};
 ghost use Rattle.factor.specs.UndoingOrder.{nthUndone};
 ghost use Rattle.factor.specs.SumBounds.{Bounded};
 ghost use Rattle.factor.specs.LayoutInSheet.{InSheet};
+ghost use Rattle.factor.specs.Rounding.{ruleBy};
 ghost use Rattle.joint.specs.Elements.{appliedOf, undoneOf};
 ghost use Rattle.joint.specs.RowsInPlace.{RowAsks, RowDone, inRow, plain};
 ghost use Rattle.joint.specs.Triangles.{TotalGiven, totalOf, RunGiven, appliedIn};
@@ -41,7 +42,6 @@ use joint::elements::with_diagonal;
 use joint::sums::whole_sum;
 use joint::sums::with_sum;
 use rules::Block;
-use rules::Rule;
 
 // The entry in column j of the factor's one row, and 0 in the row's own column, where none stands.
 fn entry_in(row: &[i32], f: Layout, j: usize) -> i32
@@ -100,7 +100,8 @@ fn narrow_sum(w: &[i32; Block::LINE], x: &[i32; Block::CELLS], k: usize, n: usiz
 
 // The same as the element looks at it: times the sign of the block's row, and rounded.
 fn rounded_beside(
-    rule: Rule,
+    down: bool,
+    even: bool,
     w: &[i32; Block::LINE],
     n: usize,
     d: i32,
@@ -108,9 +109,9 @@ fn rounded_beside(
     x: &[i32; Block::CELLS],
 ) -> i64
     requires { ⌜ Narrow (now w) (now x) k n × Sign d ⌝ }
-    ensures { λ r. ⌜ r ≡ R rule unit (d *ℤ narrowSum (now (w .entry)) (now (x .entry)) k n) ⌝ }
+    ensures { λ r. ⌜ r ≡ R (ruleBy down even) unit (d *ℤ narrowSum (now (w .entry)) (now (x .entry)) k n) ⌝ }
 {
-    round_line(rule, turned(d, narrow_sum(w, x, k, n)))
+    round_line(down, even, turned(d, narrow_sum(w, x, k, n)))
 }
 
 // The sign of the element in column j of a row of the sign d.
@@ -123,7 +124,8 @@ fn sign_in(d: i32, g: &[i32; Block::LINE], j: usize) -> i32
 
 // What the element in column q of that row becomes, q the row of the row sheet's factor.
 fn applied_beside(
-    rule: Rule,
+    down: bool,
+    even: bool,
     g: &[i32; Block::LINE],
     w: &[i32; Block::LINE],
     n: usize,
@@ -133,19 +135,20 @@ fn applied_beside(
     x: &[i32; Block::CELLS],
 ) -> i64
     requires { ⌜ SignsGiven (now g) n d k (now x) × Narrow (now w) (now x) k n × (q < n) ⌝ }
-    ensures { λ r. ⌜ r ≡ appliedBeside rule d (at (now (g .entry)) q) (narrowSum (now (w .entry)) (now (x .entry)) k n)
-        (at (now (x .entry)) (k + q)) ⌝ }
+    ensures { λ r. ⌜ r ≡ appliedBeside (ruleBy down even) d (at (now (g .entry)) q) (narrowSum (now (w .entry))
+        (now (x .entry)) k n) (at (now (x .entry)) (k + q)) ⌝ }
 {
     applied(
         sign_in(d, g, q),
         x[k + q],
-        rounded_beside(rule, w, n, d, k, x),
+        rounded_beside(down, even, w, n, d, k, x),
     )
 }
 
 // What it was, where it is y now and the others of the row are recovered.
 fn undone_beside(
-    rule: Rule,
+    down: bool,
+    even: bool,
     g: &[i32; Block::LINE],
     w: &[i32; Block::LINE],
     n: usize,
@@ -156,9 +159,14 @@ fn undone_beside(
     x: &[i32; Block::CELLS],
 ) -> i64
     requires { ⌜ SignsGiven (now g) n d k (now x) × Narrow (now w) (now x) k n × (q < n) × Within bound y ⌝ }
-    ensures { λ r. ⌜ r ≡ undoneBeside rule d (at (now (g .entry)) q) (narrowSum (now (w .entry)) (now (x .entry)) k n) y ⌝ }
+    ensures { λ r. ⌜ r ≡ undoneBeside (ruleBy down even) d (at (now (g .entry)) q) (narrowSum (now (w .entry))
+        (now (x .entry)) k n) y ⌝ }
 {
-    undone(sign_in(d, g, q), y, rounded_beside(rule, w, n, d, k, x))
+    undone(
+        sign_in(d, g, q),
+        y,
+        rounded_beside(down, even, w, n, d, k, x),
+    )
 }
 
 // A number of the block times a sign, which turns it. The compiler tests several signs at a time; for as many products the
@@ -186,7 +194,8 @@ fn turn_row(g: &[i32; Block::LINE], n: usize, d: i32, k: usize, x: &mut [i32; Bl
 // A row beside the one with entries, applied, where rows have n numbers; g and w are the row sheet's signs and entries, laid out
 // once for all rows.
 pub fn apply_beside(
-    rule: Rule,
+    down: bool,
+    even: bool,
     col: &[i32],
     fa: Layout,
     row: &[i32],
@@ -199,13 +208,13 @@ pub fn apply_beside(
 ) -> Outcome
     requires { ⌜ RowAsks (now col) fa (now row) fb i (now x) × (fb .kind ≡ Single) × (i ≢ fa .row)
         × Laid (now row) fb n (now g) (now w) ⌝ }
-    ensures { λ r. ⌜ RowDone bound (plain (appliedOf rule (now (col .entry)) fa (now (row .entry)) fb (now (x .entry))))
-        (inRow (fb .order) i) (fb .order) (now (x .entry)) (now (x .exit)) (r .ok) ⌝ }
+    ensures { λ r. ⌜ RowDone bound (plain (appliedOf (ruleBy down even) (now (col .entry)) fa (now (row .entry)) fb
+        (now (x .entry)))) (inRow (fb .order) i) (fb .order) (now (x .entry)) (now (x .exit)) (r .ok) ⌝ }
 {
     let q = fb.row;
     let d = sign_at(col, fa, i);
     let k = i * n;
-    let z = applied_beside(rule, g, w, n, q, d, k, x);
+    let z = applied_beside(down, even, g, w, n, q, d, k, x);
     if !is_within(z, Block::SAMPLE) {
         return Outcome {
             ok: false,
@@ -219,7 +228,8 @@ pub fn apply_beside(
 
 // The same undone: the sum is of the numbers recovered, which are those beside column q.
 pub fn undo_beside(
-    rule: Rule,
+    down: bool,
+    even: bool,
     col: &[i32],
     fa: Layout,
     row: &[i32],
@@ -232,7 +242,7 @@ pub fn undo_beside(
 ) -> Outcome
     requires { ⌜ RowAsks (now col) fa (now row) fb i (now x) × (fb .kind ≡ Single) × (i ≢ fa .row)
         × Laid (now row) fb n (now g) (now w) ⌝ }
-    ensures { λ r. ⌜ RowDone bound (undoneOf rule (now (col .entry)) fa (now (row .entry)) fb)
+    ensures { λ r. ⌜ RowDone bound (undoneOf (ruleBy down even) (now (col .entry)) fa (now (row .entry)) fb)
         (λ u. inRow (fb .order) i (nthUndone (fb .kind) (fb .order) (fb .row) u)) (fb .order)
         (now (x .entry)) (now (x .exit)) (r .ok) ⌝ }
 {
@@ -241,7 +251,7 @@ pub fn undo_beside(
     let k = i * n;
     let y = x[k + q];
     turn_row(g, n, d, k, x);
-    let z = undone_beside(rule, g, w, n, q, d, k, y, x);
+    let z = undone_beside(down, even, g, w, n, q, d, k, y, x);
     if !is_within(z, Block::SAMPLE) {
         return Outcome {
             ok: false,
@@ -282,7 +292,8 @@ fn crossing_total(row: &[i32], f: Layout, j: usize, total: i64, v: &[i64; Block:
 
 // The elements of the row with entries, which starts at place k and has the sign d and the sums v, applied.
 fn apply_elements(
-    rule: Rule,
+    down: bool,
+    even: bool,
     row: &[i32],
     f: Layout,
     d: i32,
@@ -291,14 +302,14 @@ fn apply_elements(
     x: &mut [i32; Block::CELLS],
 ) -> Outcome
     requires { ⌜ RunGiven (now row) f d (now v) k (now x) × (f .row < f .order) × OneRow f ⌝ }
-    ensures { λ r. ⌜ RowDone bound (appliedIn rule (now (row .entry)) f d (now (v .entry)) k) (λ u. k + u) (f .order)
-        (now (x .entry)) (now (x .exit)) (r .ok) ⌝ }
+    ensures { λ r. ⌜ RowDone bound (appliedIn (ruleBy down even) (now (row .entry)) f d (now (v .entry)) k) (λ u. k + u)
+        (f .order) (now (x .entry)) (now (x .exit)) (r .ok) ⌝ }
 {
     let n = f.order;
     let total = column_total(row, f, v);
     for j in 0..n {
         let s = crossing_total(row, f, j, total, v);
-        let z = applied_whole(rule, s, d, sign_at(row, f, j), x[k + j]);
+        let z = applied_whole(down, even, s, d, sign_at(row, f, j), x[k + j]);
         if !is_within(z, Block::SAMPLE) {
             return Outcome {
                 ok: false,
@@ -312,7 +323,8 @@ fn apply_elements(
 
 // The row with entries, applied: an element looks at the row's sums, made before, and at its own number.
 pub fn apply_crossing(
-    rule: Rule,
+    down: bool,
+    even: bool,
     col: &[i32],
     fa: Layout,
     row: &[i32],
@@ -322,19 +334,20 @@ pub fn apply_crossing(
 ) -> Outcome
     requires { ⌜ InSheet (now col) fa × InSheet (now row) fb × (i < fa .order) × Bounded bound (now x)
         × (fb .row < fb .order) × OneRow fb ⌝ }
-    ensures { λ r. ⌜ RowDone bound (plain (appliedOf rule (now (col .entry)) fa (now (row .entry)) fb (now (x .entry))))
-        (inRow (fb .order) i) (fb .order) (now (x .entry)) (now (x .exit)) (r .ok) ⌝ }
+    ensures { λ r. ⌜ RowDone bound (plain (appliedOf (ruleBy down even) (now (col .entry)) fa (now (row .entry)) fb
+        (now (x .entry)))) (inRow (fb .order) i) (fb .order) (now (x .entry)) (now (x .exit)) (r .ok) ⌝ }
 {
     let n = fb.order;
     let mut v = [0i64; Block::LINE];
     sums_at(col, fa, i, x, n, &mut v);
-    apply_elements(rule, row, fb, sign_at(col, fa, i), &v, i * n, x)
+    apply_elements(down, even, row, fb, sign_at(col, fa, i), &v, i * n, x)
 }
 
 // The same undone, in the order of the row sheet's factor. A number goes into the row's sums when it is recovered: nothing looks
 // at it before.
 pub fn undo_crossing(
-    rule: Rule,
+    down: bool,
+    even: bool,
     col: &[i32],
     fa: Layout,
     row: &[i32],
@@ -344,7 +357,7 @@ pub fn undo_crossing(
 ) -> Outcome
     requires { ⌜ InSheet (now col) fa × InSheet (now row) fb × (i < fa .order) × (fb .row < fb .order)
         × Bounded bound (now x) × (length (now x) ≡ mostCells) ⌝ }
-    ensures { λ r. ⌜ RowDone bound (undoneOf rule (now (col .entry)) fa (now (row .entry)) fb)
+    ensures { λ r. ⌜ RowDone bound (undoneOf (ruleBy down even) (now (col .entry)) fa (now (row .entry)) fb)
         (λ u. inRow (fb .order) i (nthUndone (fb .kind) (fb .order) (fb .row) u)) (fb .order)
         (now (x .entry)) (now (x .exit)) (r .ok) ⌝ }
 {
@@ -355,7 +368,7 @@ pub fn undo_crossing(
         let j = nth_undone(fb, u);
         let e = i * n + j;
         let d = sign_at(col, fa, i);
-        let z = undone_at(rule, row, fb, j, d, &v, x[e]);
+        let z = undone_at(down, even, row, fb, j, d, &v, x[e]);
         if !is_within(z, Block::SAMPLE) {
             return Outcome {
                 ok: false,

@@ -10,11 +10,15 @@ use lib.IntN.{ℤ}
 use lib.ListN.{length}
 use Rattle.rules.specs.declared.Answer.{Answer}
 use Rattle.rules.specs.Answers.{refused, _or-else_}
-use Rattle.rules.specs.Calls.{Reply, Plan, sized}
+use Rattle.rules.specs.Calls.{Reply, Plan, sized, ruleOf, ruleChecked, under, ruled}
 use Rattle.rules.specs.Strips.{GivesStrip, inBlocks, outputs, bytesOf, stripAnswer, strip}
 use Rattle.laws.specs.Strips.{strip-ran, strip-found}
 use Rattle.laws.specs.AnswersInTurn.{answer-passes, answer-stops}
+use Rattle.laws.specs.Plans.{under-fine}
+use Rattle.factor.specs.declared.run.Task.{Task}
+use Rattle.factor.specs.Tasks.{callBy}
 use Rattle.factor.specs.CallAnswers.{lengthOf}
+use Rattle.striprun.specs.Plans.{stripOf}
 
 -- 10 by the lengths
 unfoldable pub stripLengths : ℕ → ℕ → ℕ → ℕ → Answer
@@ -53,3 +57,15 @@ module _ (p : Plan) (x y : List ℤ) (b : List ℕ) where
         {m : List ℤ} {bs : List ℕ} → a .number ≡ 0 → (m ≡ outputs p call (length b) x y) × (bs ≡ bytesOf p call (length b) x y) →
         GivesStrip a m bs (strip p call x y b)
     strip-goes h g = rw (strip-ran p call x y b (ap (λ (q : Answer). q .number) (sym e) ∙ h)) (e, g .0, g .1)
+
+-- ---- a strip by the number of a rule: 16 comes first, then the strip is the one of that rule; a is what the check of the number
+-- answered
+module _ (task : Task) (k : ℕ) (p : Plan) (x y : List ℤ) (b : List ℕ) {a : Answer} (e : a ≡ ruleChecked k) where
+  pub rule-stops : (a .number ≡ 0 → ⊥) → GivesStrip a y b (ruled k (stripOf task) p x y b)
+  rule-stops h =
+      let refuses = answer-stops (ruleChecked k) (p .sheets) (λ z. h (ap (λ (q : Answer). q .number) e ∙ z)) in
+      strip-stops (under k p) x y b (callBy task (ruleOf k) (under k p)) (sheets-first (under k p) x y b (e ∙ sym refuses) h) h
+
+  pub rule-goes : {c : Answer} {m : List ℤ} {bs : List ℕ} → a .number ≡ 0 → GivesStrip c m bs (stripOf task (ruleOf k) p x y b) →
+      GivesStrip c m bs (ruled k (stripOf task) p x y b)
+  rule-goes h g = rw (under-fine k p (ap (λ (q : Answer). q .number) (sym e) ∙ h)) g

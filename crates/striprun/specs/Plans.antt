@@ -41,6 +41,10 @@ module _ (shape : Shape) (r : Run) (c w : List ℤ) where
   abbrev pub stripBy : List ℤ → List ℤ → List ℕ → StripReply
   stripBy x y b = strip (planOf shape c w) (callOf r (planOf shape c w)) x y b
 
+-- the strip of a task, of any rule and plan
+abbrev pub stripOf : Task → Rule → Plan → List ℤ → List ℤ → List ℕ → StripReply
+stripOf task rule p x y b = strip p (callBy task rule p) x y b
+
 -- a strip has blocks to run: forward or inverse
 unfoldable pub TakesBlocks : Task → Type 0
 TakesBlocks Forward = Unit {0}

@@ -2,8 +2,9 @@
 ghost use mathlib.Core.Path.{_≡_};
 ghost use Prim.Native.Nat.{_*_, _<_};
 ghost use lib.ListN.{length};
+ghost use Rattle.rules.specs.Calls.{ruled};
 ghost use Rattle.rules.specs.Strips.{GivesStrip};
-ghost use Rattle.striprun.specs.Plans.{planOf, StartsOf, outputsBy, bytesBy, stripBy, TakesBlocks};
+ghost use Rattle.striprun.specs.Plans.{planOf, StartsOf, outputsBy, bytesBy, stripBy, stripOf, TakesBlocks};
 ghost use Rattle.striprun.specs.Lengths.{stripLengths};
 use crate::blocks::Shape;
 use crate::blocks::check_sheets;
@@ -11,6 +12,9 @@ use crate::blocks::run_block;
 use crate::blocks::size_of;
 use factor::lengths::check_length;
 use factor::run::Run;
+use factor::run::Task;
+use factor::run::check_rule;
+use factor::run::run_by;
 use rules::Answer;
 use rules::Sheet;
 
@@ -61,7 +65,7 @@ fn run_blocks(
 }
 
 // "1 to 9 and 12 as before, then 10"; else all blocks.
-pub fn run_strip(
+fn run_strip(
     shape: Shape,
     run: Run,
     col: &[i32],
@@ -87,4 +91,27 @@ pub fn run_strip(
     }
     run_blocks(shape, run, col, row, &columns, &rows, n, x, y, bytes);
     l
+}
+
+// 16 for a number that is no rule's, then the strip by that rule.
+pub fn strip_by(
+    shape: Shape,
+    task: Task,
+    rule: u32,
+    col: &[i32],
+    row: &[i32],
+    x: &[i32],
+    y: &mut [i32],
+    bytes: &mut [u8],
+) -> Answer
+    requires { ⌜ TakesBlocks task ⌝ }
+    ensures { λ a. ⌜ GivesStrip a (now (y .exit)) (now (bytes .exit))
+        (ruled rule (stripOf task) (planOf shape (now (col .entry)) (now (row .entry)))
+        (now (x .entry)) (now (y .entry)) (now (bytes .entry))) ⌝ }
+{
+    let a = check_rule(rule);
+    if a.number != 0 {
+        return a;
+    }
+    run_strip(shape, run_by(task, rule), col, row, x, y, bytes)
 }

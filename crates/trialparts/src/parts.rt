@@ -2,6 +2,8 @@
 ghost use mathlib.Core.Path.{_≡_};
 ghost use Prim.Native.Nat.{_≤_};
 ghost use lib.ListN.{length};
+ghost use mir.Syntax.{w32};
+ghost use mir.Val.{toZ};
 use rules::Answer;
 use sheetread::factors::size;
 use sheetread::factors::smaller;
@@ -34,6 +36,16 @@ pub fn natural(z: i32) -> usize {
         return 0;
     }
     size(z)
+}
+
+// The bits of a word, as a number: a rule may be any number of 32 bits.
+pub fn bits_of(z: i32) -> u32
+    ensures { λ r. ⌜ toZ w32 r ≡ z ⌝ }
+{
+    if z < 0 {
+        return ((z as i64) + 4294967296) as u32;
+    }
+    z as u32
 }
 
 // A word that holds a byte.

@@ -1,4 +1,4 @@
-// Each call on the parts of a case: A, B and X are lent to be read, Y to be written.
+// Each call on the parts of a case: A, B and X are lent to be read, Y to be written. Runs and allowances take the case's rule.
 use trialparts::parts::ROOM;
 ghost use mathlib.Core.Path.{_≡_};
 ghost use lib.ListN.{length};
@@ -47,6 +47,7 @@ fn program(a: &[i32], y: &mut [i32]) -> Answer {
 // The strips by their numbers.
 fn strip_by(
     call: usize,
+    rule: u32,
     a: &[i32],
     b: &[i32],
     x: &[i32],
@@ -54,22 +55,22 @@ fn strip_by(
     bytes: &mut [u8],
 ) -> Answer {
     if call == 17 {
-        return strip::line_forward(a, x, y, bytes);
+        return strip::line_forward(rule, a, x, y, bytes);
     }
     if call == 18 {
-        return strip::line_inverse(a, x, y, bytes);
+        return strip::line_inverse(rule, a, x, y, bytes);
     }
     if call == 19 {
-        return strip::joint_forward(a, b, x, y, bytes);
+        return strip::joint_forward(rule, a, b, x, y, bytes);
     }
     if call == 20 {
-        return strip::joint_inverse(a, b, x, y, bytes);
+        return strip::joint_inverse(rule, a, b, x, y, bytes);
     }
     unknown()
 }
 
 // A strip: X is the count of bytes and then the input, Y the output and then the bytes, one to a word.
-fn strip(call: usize, a: &[i32], b: &[i32], x: &[i32], y: &mut [i32]) -> Answer {
+fn strip(call: usize, rule: u32, a: &[i32], b: &[i32], x: &[i32], y: &mut [i32]) -> Answer {
     if x.len() == 0 {
         return unknown();
     }
@@ -82,7 +83,7 @@ fn strip(call: usize, a: &[i32], b: &[i32], x: &[i32], y: &mut [i32]) -> Answer 
     }
     let n = y.len() - many;
     let mut bytes = load_bytes(&y[n..]);
-    let r = strip_by(call, a, b, &x[1..], &mut y[..n], &mut bytes[..many]);
+    let r = strip_by(call, rule, a, b, &x[1..], &mut y[..n], &mut bytes[..many]);
     store_bytes(&bytes, y, n);
     r
 }
@@ -100,7 +101,7 @@ fn unknown() -> Answer {
 }
 
 // The calls by their numbers in the stream, of those whose answer is an Answer.
-pub fn answer(call: usize, a: &[i32], b: &[i32], x: &[i32], y: &mut [i32]) -> Answer {
+pub fn answer(call: usize, rule: u32, a: &[i32], b: &[i32], x: &[i32], y: &mut [i32]) -> Answer {
     if call == 1 {
         return sheet::check(a);
     }
@@ -117,37 +118,37 @@ pub fn answer(call: usize, a: &[i32], b: &[i32], x: &[i32], y: &mut [i32]) -> An
         return recipe::built_in(y);
     }
     if call == 7 {
-        return line::forward(a, x, y);
+        return line::forward(rule, a, x, y);
     }
     if call == 8 {
-        return line::inverse(a, x, y);
+        return line::inverse(rule, a, x, y);
     }
     if call == 9 {
-        return line::allowance(a, y);
+        return line::allowance(rule, a, y);
     }
     if call == 10 {
-        return rectangle::forward(a, b, x, y);
+        return rectangle::forward(rule, a, b, x, y);
     }
     if call == 11 {
-        return rectangle::inverse(a, b, x, y);
+        return rectangle::inverse(rule, a, b, x, y);
     }
     if call == 12 {
-        return rectangle::allowance(a, b, y);
+        return rectangle::allowance(rule, a, b, y);
     }
     if call == 13 {
         return program(a, y);
     }
     if call == 14 {
-        return line::forward(a, x, y);
+        return line::forward(rule, a, x, y);
     }
     if call == 15 {
-        return rectangle::forward(a, b, x, y);
+        return rectangle::forward(rule, a, b, x, y);
     }
     if call == 16 {
         return recipe::first_printing(y);
     }
     if call > 16 {
-        return strip(call, a, b, x, y);
+        return strip(call, rule, a, b, x, y);
     }
     unknown()
 }

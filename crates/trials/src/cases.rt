@@ -4,6 +4,7 @@ use crate::calls::answer;
 use crate::calls::is_rest;
 use trialparts::parts::ROOM;
 use trialparts::parts::at;
+use trialparts::parts::bits_of;
 use trialparts::parts::is_answer;
 use trialparts::parts::is_between;
 use trialparts::parts::is_front;
@@ -43,8 +44,8 @@ pub struct End {
 }
 
 // A length, kept small enough that sums of lengths fit.
-fn length_at(head: &[i32; 5], k: usize) -> usize
-    requires { ⌜ k < 5 ⌝ }
+fn length_at(head: &[i32; 6], k: usize) -> usize
+    requires { ⌜ k < 6 ⌝ }
     ensures { λ r. ⌜ r ≤ 32768 ⌝ }
 {
     let n = natural(head[k]);
@@ -54,11 +55,12 @@ fn length_at(head: &[i32; 5], k: usize) -> usize
     n
 }
 
-fn lay_out(head: &[i32; 5]) -> Layout {
-    let a = length_at(head, 1);
-    let b = a + length_at(head, 2);
-    let x = b + length_at(head, 3);
-    let room = length_at(head, 4);
+// A head is the call, the rule, and the lengths of A, B, X and Y.
+fn lay_out(head: &[i32; 6]) -> Layout {
+    let a = length_at(head, 2);
+    let b = a + length_at(head, 3);
+    let x = b + length_at(head, 4);
+    let room = length_at(head, 5);
     let y = x + room;
     Layout {
         a,
@@ -74,7 +76,7 @@ fn lay_out(head: &[i32; 5]) -> Layout {
 
 // Runs a case: whether its answer and the lent memory are the expected ones. Calls 14 and 15 try a law: their coefficients have
 // to lie between two blocks, the least in Y before the call and the largest in Y after it.
-fn judge(call: usize, c: Layout, w: &[i32]) -> bool {
+fn judge(call: usize, rule: u32, c: Layout, w: &[i32]) -> bool {
     let a = part(w, 0, c.a);
     let b = part(w, c.a, c.b);
     let x = part(w, c.b, c.x);
@@ -90,7 +92,7 @@ fn judge(call: usize, c: Layout, w: &[i32]) -> bool {
         return false;
     }
     let mut room = load(y);
-    let r = answer(call, a, b, x, &mut room[..n]);
+    let r = answer(call, rule, a, b, x, &mut room[..n]);
     if !is_answer(r, number, side, place) {
         return false;
     }
@@ -102,7 +104,7 @@ fn judge(call: usize, c: Layout, w: &[i32]) -> bool {
 }
 
 // The rest of a case whose head was read.
-fn read_case(call: usize, c: Layout) -> Verdict {
+fn read_case(call: usize, rule: u32, c: Layout) -> Verdict {
     let end = c.end;
     if end > MOST {
         return Verdict {
@@ -120,20 +122,20 @@ fn read_case(call: usize, c: Layout) -> Verdict {
     }
     Verdict {
         call,
-        agrees: judge(call, c, &w),
+        agrees: judge(call, rule, c, &w),
     }
 }
 
 fn next_case() -> Verdict {
-    let mut head = [0i32; 5];
+    let mut head = [0i32; 6];
     let got = read_words(&mut head);
-    if got != 20 {
+    if got != 24 {
         return Verdict {
             call: 0,
             agrees: got == 0,
         };
     }
-    read_case(natural(head[0]), lay_out(&head))
+    read_case(natural(head[0]), bits_of(head[1]), lay_out(&head))
 }
 
 // Runs case after case, and counts.

@@ -6,6 +6,7 @@ ghost use Prim.Native.Nat.{_+_, _-_, _≤_, _<_};
 ghost use Rattle.rules.specs.declared.Kind.the-variants.{Lower, Upper};
 ghost use Rattle.rules.specs.Numbers.{bound};
 ghost use Rattle.factor.specs.Layouts.{rowOf};
+ghost use Rattle.factor.specs.Rounding.{ruleBy};
 ghost use Rattle.joint.specs.Elements.{appliedOf};
 ghost use Rattle.joint.specs.RowsInPlace.{RowAsks, RowDone, plain, inRow, onward};
 ghost use Rattle.joint.specs.Triangles.{TotalGiven, totalOf, RunGiven, appliedIn};
@@ -16,12 +17,13 @@ use factor::before_lower;
 use factor::before_upper;
 use factor::rounding::is_within;
 use factor::run::Outcome;
+use factor::run::is_other;
+use factor::run::is_written;
 use joint::elements::applied_whole;
 use joint::elements::sign_at;
 use joint::elements::with_diagonal;
 use joint::sums::wide_sum;
 use rules::Block;
-use rules::Rule;
 
 // The whole sum of element j under a lower factor, whose entries for it start at place p.
 fn lower_total(row: &[i32], f: Layout, j: usize, p: usize, v: &[i64; Block::LINE]) -> i64
@@ -45,7 +47,8 @@ fn upper_total(row: &[i32], f: Layout, n: usize, j: usize, p: usize, v: &[i64; B
 
 // The elements from .. to of the row that starts at place k, under a lower factor.
 fn apply_lower(
-    rule: Rule,
+    down: bool,
+    even: bool,
     row: &[i32],
     f: Layout,
     d: i32,
@@ -56,14 +59,14 @@ fn apply_lower(
     x: &mut [i32; Block::CELLS],
 ) -> Outcome
     requires { ⌜ RunGiven (now row) f d (now v) k (now x) × (f .kind ≡ Lower) × (from < to) × (to ≤ f .order) ⌝ }
-    ensures { λ r. ⌜ RowDone bound (appliedIn rule (now (row .entry)) f d (now (v .entry)) k) (onward (λ u. k + u) from)
-        (to - from) (now (x .entry)) (now (x .exit)) (r .ok) ⌝ }
+    ensures { λ r. ⌜ RowDone bound (appliedIn (ruleBy down even) (now (row .entry)) f d (now (v .entry)) k) (onward
+        (λ u. k + u) from) (to - from) (now (x .entry)) (now (x .exit)) (r .ok) ⌝ }
 {
     let entries = f.entries;
     let mut p = entries + before_lower(from);
     for j in from..to {
         let s = lower_total(row, f, j, p, v);
-        let z = applied_whole(rule, s, d, sign_at(row, f, j), x[k + j]);
+        let z = applied_whole(down, even, s, d, sign_at(row, f, j), x[k + j]);
         if !is_within(z, Block::SAMPLE) {
             return Outcome {
                 ok: false,
@@ -78,7 +81,8 @@ fn apply_lower(
 
 // The elements from .. to of the row that starts at place k, under an upper factor.
 fn apply_upper(
-    rule: Rule,
+    down: bool,
+    even: bool,
     row: &[i32],
     f: Layout,
     n: usize,
@@ -91,14 +95,14 @@ fn apply_upper(
 ) -> Outcome
     requires { ⌜ RunGiven (now row) f d (now v) k (now x) × (f .kind ≡ Upper) × (n ≡ f .order) × (from < to)
         × (to ≤ f .order) ⌝ }
-    ensures { λ r. ⌜ RowDone bound (appliedIn rule (now (row .entry)) f d (now (v .entry)) k) (onward (λ u. k + u) from)
-        (to - from) (now (x .entry)) (now (x .exit)) (r .ok) ⌝ }
+    ensures { λ r. ⌜ RowDone bound (appliedIn (ruleBy down even) (now (row .entry)) f d (now (v .entry)) k) (onward
+        (λ u. k + u) from) (to - from) (now (x .entry)) (now (x .exit)) (r .ok) ⌝ }
 {
     let entries = f.entries;
     let mut p = entries + before_upper(n, from);
     for j in from..to {
         let s = upper_total(row, f, n, j, p, v);
-        let z = applied_whole(rule, s, d, sign_at(row, f, j), x[k + j]);
+        let z = applied_whole(down, even, s, d, sign_at(row, f, j), x[k + j]);
         if !is_within(z, Block::SAMPLE) {
             return Outcome {
                 ok: false,
@@ -113,7 +117,8 @@ fn apply_upper(
 
 // A whole row of elements under a lower factor.
 fn apply_lower_elements(
-    rule: Rule,
+    down: bool,
+    even: bool,
     row: &[i32],
     f: Layout,
     d: i32,
@@ -122,26 +127,28 @@ fn apply_lower_elements(
     x: &mut [i32; Block::CELLS],
 ) -> Outcome
     requires { ⌜ RunGiven (now row) f d (now v) k (now x) × (f .kind ≡ Lower) ⌝ }
-    ensures { λ r. ⌜ RowDone bound (appliedIn rule (now (row .entry)) f d (now (v .entry)) k) (λ u. k + u)
+    ensures { λ r. ⌜ RowDone bound (appliedIn (ruleBy down even) (now (row .entry)) f d (now (v .entry)) k) (λ u. k + u)
         (f .order) (now (x .entry)) (now (x .exit)) (r .ok) ⌝ }
 {
     let n = f.order;
-    if n == 8 {
-        return apply_lower(rule, row, f, d, v, k, 0, 8, x);
+    let other = is_other(down, even);
+    if is_written(other, n, 8) {
+        return apply_lower(false, false, row, f, d, v, k, 0, 8, x);
     }
-    if n == 16 {
-        let a = apply_lower(rule, row, f, d, v, k, 0, 8, x);
+    if is_written(other, n, 16) {
+        let a = apply_lower(false, false, row, f, d, v, k, 0, 8, x);
         if !a.ok {
             return a;
         }
-        return apply_lower(rule, row, f, d, v, k, 8, 16, x);
+        return apply_lower(false, false, row, f, d, v, k, 8, 16, x);
     }
-    apply_lower(rule, row, f, d, v, k, 0, n, x)
+    apply_lower(down, even, row, f, d, v, k, 0, n, x)
 }
 
 // A whole row of elements under an upper factor.
 fn apply_upper_elements(
-    rule: Rule,
+    down: bool,
+    even: bool,
     row: &[i32],
     f: Layout,
     d: i32,
@@ -150,26 +157,28 @@ fn apply_upper_elements(
     x: &mut [i32; Block::CELLS],
 ) -> Outcome
     requires { ⌜ RunGiven (now row) f d (now v) k (now x) × (f .kind ≡ Upper) ⌝ }
-    ensures { λ r. ⌜ RowDone bound (appliedIn rule (now (row .entry)) f d (now (v .entry)) k) (λ u. k + u)
+    ensures { λ r. ⌜ RowDone bound (appliedIn (ruleBy down even) (now (row .entry)) f d (now (v .entry)) k) (λ u. k + u)
         (f .order) (now (x .entry)) (now (x .exit)) (r .ok) ⌝ }
 {
     let n = f.order;
-    if n == 8 {
-        return apply_upper(rule, row, f, 8, d, v, k, 0, 8, x);
+    let other = is_other(down, even);
+    if is_written(other, n, 8) {
+        return apply_upper(false, false, row, f, 8, d, v, k, 0, 8, x);
     }
-    if n == 16 {
-        let a = apply_upper(rule, row, f, 16, d, v, k, 0, 8, x);
+    if is_written(other, n, 16) {
+        let a = apply_upper(false, false, row, f, 16, d, v, k, 0, 8, x);
         if !a.ok {
             return a;
         }
-        return apply_upper(rule, row, f, 16, d, v, k, 8, 16, x);
+        return apply_upper(false, false, row, f, 16, d, v, k, 8, 16, x);
     }
-    apply_upper(rule, row, f, n, d, v, k, 0, n, x)
+    apply_upper(down, even, row, f, n, d, v, k, 0, n, x)
 }
 
 // Row i of rows of four under a lower factor. The width is a literal here, so that sums and elements stay in registers.
 fn apply_lower_four(
-    rule: Rule,
+    down: bool,
+    even: bool,
     col: &[i32],
     fa: Layout,
     row: &[i32],
@@ -178,18 +187,22 @@ fn apply_lower_four(
     x: &mut [i32; Block::CELLS],
 ) -> Outcome
     requires { ⌜ RowAsks (now col) fa (now row) fb i (now x) × (fb .kind ≡ Lower) × (fb .order ≡ 4) ⌝ }
-    ensures { λ r. ⌜ RowDone bound (plain (appliedOf rule (now (col .entry)) fa (now (row .entry)) fb (now (x .entry))))
-        (inRow (fb .order) i) (fb .order) (now (x .entry)) (now (x .exit)) (r .ok) ⌝ }
+    ensures { λ r. ⌜ RowDone bound (plain (appliedOf (ruleBy down even) (now (col .entry)) fa (now (row .entry)) fb
+        (now (x .entry)))) (inRow (fb .order) i) (fb .order) (now (x .entry)) (now (x .exit)) (r .ok) ⌝ }
 {
     let d = sign_at(col, fa, i);
     let mut v = [0i64; Block::LINE];
     lower_sums(col, fa, i, x, 4, &mut v);
-    apply_lower(rule, row, fb, d, &v, i * 4, 0, 4, x)
+    if even {
+        return apply_lower(down, true, row, fb, d, &v, i * 4, 0, 4, x);
+    }
+    apply_lower(down, false, row, fb, d, &v, i * 4, 0, 4, x)
 }
 
 // Row i under a lower factor: its sums, over the rows above it, then its elements.
 pub fn apply_lower_row(
-    rule: Rule,
+    down: bool,
+    even: bool,
     col: &[i32],
     fa: Layout,
     row: &[i32],
@@ -198,22 +211,23 @@ pub fn apply_lower_row(
     x: &mut [i32; Block::CELLS],
 ) -> Outcome
     requires { ⌜ RowAsks (now col) fa (now row) fb i (now x) × (fb .kind ≡ Lower) ⌝ }
-    ensures { λ r. ⌜ RowDone bound (plain (appliedOf rule (now (col .entry)) fa (now (row .entry)) fb (now (x .entry))))
-        (inRow (fb .order) i) (fb .order) (now (x .entry)) (now (x .exit)) (r .ok) ⌝ }
+    ensures { λ r. ⌜ RowDone bound (plain (appliedOf (ruleBy down even) (now (col .entry)) fa (now (row .entry)) fb
+        (now (x .entry)))) (inRow (fb .order) i) (fb .order) (now (x .entry)) (now (x .exit)) (r .ok) ⌝ }
 {
     let n = fb.order;
     if n == 4 {
-        return apply_lower_four(rule, col, fa, row, fb, i, x);
+        return apply_lower_four(down, even, col, fa, row, fb, i, x);
     }
     let d = sign_at(col, fa, i);
     let mut v = [0i64; Block::LINE];
     lower_sums(col, fa, i, x, n, &mut v);
-    apply_lower_elements(rule, row, fb, d, &v, i * n, x)
+    apply_lower_elements(down, even, row, fb, d, &v, i * n, x)
 }
 
 // Row i of rows of four under an upper factor. The width is a literal here, so that sums and elements stay in registers.
 fn apply_upper_four(
-    rule: Rule,
+    down: bool,
+    even: bool,
     col: &[i32],
     fa: Layout,
     row: &[i32],
@@ -222,18 +236,22 @@ fn apply_upper_four(
     x: &mut [i32; Block::CELLS],
 ) -> Outcome
     requires { ⌜ RowAsks (now col) fa (now row) fb i (now x) × (fb .kind ≡ Upper) × (fb .order ≡ 4) ⌝ }
-    ensures { λ r. ⌜ RowDone bound (plain (appliedOf rule (now (col .entry)) fa (now (row .entry)) fb (now (x .entry))))
-        (inRow (fb .order) i) (fb .order) (now (x .entry)) (now (x .exit)) (r .ok) ⌝ }
+    ensures { λ r. ⌜ RowDone bound (plain (appliedOf (ruleBy down even) (now (col .entry)) fa (now (row .entry)) fb
+        (now (x .entry)))) (inRow (fb .order) i) (fb .order) (now (x .entry)) (now (x .exit)) (r .ok) ⌝ }
 {
     let d = sign_at(col, fa, i);
     let mut v = [0i64; Block::LINE];
     upper_sums(col, fa, i, x, 4, &mut v);
-    apply_upper(rule, row, fb, 4, d, &v, i * 4, 0, 4, x)
+    if even {
+        return apply_upper(down, true, row, fb, 4, d, &v, i * 4, 0, 4, x);
+    }
+    apply_upper(down, false, row, fb, 4, d, &v, i * 4, 0, 4, x)
 }
 
 // Row i under an upper factor: its sums, over the rows below it, then its elements.
 pub fn apply_upper_row(
-    rule: Rule,
+    down: bool,
+    even: bool,
     col: &[i32],
     fa: Layout,
     row: &[i32],
@@ -242,15 +260,15 @@ pub fn apply_upper_row(
     x: &mut [i32; Block::CELLS],
 ) -> Outcome
     requires { ⌜ RowAsks (now col) fa (now row) fb i (now x) × (fb .kind ≡ Upper) ⌝ }
-    ensures { λ r. ⌜ RowDone bound (plain (appliedOf rule (now (col .entry)) fa (now (row .entry)) fb (now (x .entry))))
-        (inRow (fb .order) i) (fb .order) (now (x .entry)) (now (x .exit)) (r .ok) ⌝ }
+    ensures { λ r. ⌜ RowDone bound (plain (appliedOf (ruleBy down even) (now (col .entry)) fa (now (row .entry)) fb
+        (now (x .entry)))) (inRow (fb .order) i) (fb .order) (now (x .entry)) (now (x .exit)) (r .ok) ⌝ }
 {
     let n = fb.order;
     if n == 4 {
-        return apply_upper_four(rule, col, fa, row, fb, i, x);
+        return apply_upper_four(down, even, col, fa, row, fb, i, x);
     }
     let d = sign_at(col, fa, i);
     let mut v = [0i64; Block::LINE];
     upper_sums(col, fa, i, x, n, &mut v);
-    apply_upper_elements(rule, row, fb, d, &v, i * n, x)
+    apply_upper_elements(down, even, row, fb, d, &v, i * n, x)
 }

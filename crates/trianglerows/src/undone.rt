@@ -1,5 +1,6 @@
 // A row of elements under a lower or an upper factor, undone. The number recovered just before comes into a sum last, and from a
 // variable of its own: read back from the sums at once, it would be waited for.
+ghost use mathlib.Core.Bool.{false};
 ghost use mathlib.Core.Path.{_≡_};
 ghost use Prim.Native.Nat.{suc, _+_, _-_, _≤_, _<_};
 ghost use lib.IntN.{_+ℤ_, _*ℤ_};
@@ -9,6 +10,7 @@ ghost use Rattle.rules.specs.declared.Kind.the-variants.{Lower, Upper};
 ghost use Rattle.rules.specs.Numbers.{mostOrder, bound, at};
 ghost use Rattle.factor.specs.Layouts.{rowOf};
 ghost use Rattle.factor.specs.SumBounds.{Bounded};
+ghost use Rattle.factor.specs.Rounding.{ruleBy};
 ghost use Rattle.joint.specs.Sums.{Wide, mostColumn};
 ghost use Rattle.joint.specs.Elements.{undoneOf};
 ghost use Rattle.joint.specs.RowsInPlace.{RowAsks, RowDone};
@@ -21,13 +23,13 @@ use factor::before_lower;
 use factor::before_upper;
 use factor::rounding::is_within;
 use factor::run::Outcome;
+use factor::run::is_written;
 use joint::elements::sign_at;
 use joint::elements::undone_whole;
 use joint::elements::with_diagonal;
 use joint::sums::wide_sum;
 use joint::sums::with_sum;
 use rules::Block;
-use rules::Rule;
 
 // The own term, and m entries times the first m sums, of which last is the last.
 fn sum_ending(a: &[i32], p: usize, v: &[i64; Block::LINE], m: usize, last: i64, own: i64) -> i64
@@ -100,7 +102,8 @@ fn left_of(v: &[i64; Block::LINE], j: usize) -> i64
 
 // The elements from .. to of row i under a lower factor, from the first column on.
 fn undo_lower(
-    rule: Rule,
+    down: bool,
+    even: bool,
     col: &[i32],
     fa: Layout,
     row: &[i32],
@@ -113,8 +116,8 @@ fn undo_lower(
 ) -> Outcome
     requires { ⌜ UndoGiven (now col) fa (now row) fb i from (now x) (now v) × (fb .kind ≡ Lower) × (from < to)
         × (to ≤ fb .order) ⌝ }
-    ensures { λ r. ⌜ RunUndone rule (now (col .entry)) fa (now (row .entry)) fb i from to (now (x .entry)) (now (x .exit))
-        (now (v .exit)) (r .ok) ⌝ }
+    ensures { λ r. ⌜ RunUndone (ruleBy down even) (now (col .entry)) fa (now (row .entry)) fb i from to (now (x .entry))
+        (now (x .exit)) (now (v .exit)) (r .ok) ⌝ }
 {
     let n = fb.order;
     let entries = fb.entries;
@@ -124,7 +127,7 @@ fn undo_lower(
     for j in from..to {
         let d = sign_at(col, fa, i);
         let s = lower_total(row, fb, j, p, v, last);
-        let z = undone_whole(rule, s, d, sign_at(row, fb, j), x[k + j]);
+        let z = undone_whole(down, even, s, d, sign_at(row, fb, j), x[k + j]);
         if !is_within(z, Block::SAMPLE) {
             return Outcome {
                 ok: false,
@@ -152,7 +155,8 @@ fn right_of(v: &[i64; Block::LINE], n: usize, t: usize) -> i64
 
 // The turns from .. to of row i under an upper factor of order n, from the last column on. Its entries are met from the last on.
 fn undo_upper(
-    rule: Rule,
+    down: bool,
+    even: bool,
     col: &[i32],
     fa: Layout,
     row: &[i32],
@@ -166,8 +170,8 @@ fn undo_upper(
 ) -> Outcome
     requires { ⌜ UndoGiven (now col) fa (now row) fb i from (now x) (now v) × (fb .kind ≡ Upper) × (from < to)
         × (to ≤ fb .order) × (n ≡ fb .order) ⌝ }
-    ensures { λ r. ⌜ RunUndone rule (now (col .entry)) fa (now (row .entry)) fb i from to (now (x .entry)) (now (x .exit))
-        (now (v .exit)) (r .ok) ⌝ }
+    ensures { λ r. ⌜ RunUndone (ruleBy down even) (now (col .entry)) fa (now (row .entry)) fb i from to (now (x .entry))
+        (now (x .exit)) (now (v .exit)) (r .ok) ⌝ }
 {
     let wide = fb.order;
     let entries = fb.entries;
@@ -179,7 +183,7 @@ fn undo_upper(
         p = p - t;
         let d = sign_at(col, fa, i);
         let s = upper_total(row, fb, j, t, p, v, last);
-        let z = undone_whole(rule, s, d, sign_at(row, fb, j), x[k + j]);
+        let z = undone_whole(down, even, s, d, sign_at(row, fb, j), x[k + j]);
         if !is_within(z, Block::SAMPLE) {
             return Outcome {
                 ok: false,
@@ -195,7 +199,8 @@ fn undo_upper(
 
 // All elements of row i under a lower factor.
 fn undo_lower_elements(
-    rule: Rule,
+    down: bool,
+    even: bool,
     col: &[i32],
     fa: Layout,
     row: &[i32],
@@ -205,31 +210,35 @@ fn undo_lower_elements(
     x: &mut [i32; Block::CELLS],
 ) -> Outcome
     requires { ⌜ UndoGiven (now col) fa (now row) fb i 0 (now x) (now v) × (fb .kind ≡ Lower) ⌝ }
-    ensures { λ r. ⌜ RowDone bound (undoneOf rule (now (col .entry)) fa (now (row .entry)) fb) (undoneTurn fb i) (fb .order)
-        (now (x .entry)) (now (x .exit)) (r .ok) ⌝ }
+    ensures { λ r. ⌜ RowDone bound (undoneOf (ruleBy down even) (now (col .entry)) fa (now (row .entry)) fb) (undoneTurn fb i)
+        (fb .order) (now (x .entry)) (now (x .exit)) (r .ok) ⌝ }
 {
     let n = fb.order;
-    if n == 16 {
-        let a = undo_lower(rule, col, fa, row, fb, i, 0, 4, v, x);
+    if is_written(even, n, 16) {
+        let a = undo_lower(down, false, col, fa, row, fb, i, 0, 4, v, x);
         if !a.ok {
             return a;
         }
-        let b = undo_lower(rule, col, fa, row, fb, i, 4, 8, v, x);
+        let b = undo_lower(down, false, col, fa, row, fb, i, 4, 8, v, x);
         if !b.ok {
             return b;
         }
-        let c = undo_lower(rule, col, fa, row, fb, i, 8, 12, v, x);
+        let c = undo_lower(down, false, col, fa, row, fb, i, 8, 12, v, x);
         if !c.ok {
             return c;
         }
-        return undo_lower(rule, col, fa, row, fb, i, 12, 16, v, x);
+        return undo_lower(down, false, col, fa, row, fb, i, 12, 16, v, x);
     }
-    undo_lower(rule, col, fa, row, fb, i, 0, n, v, x)
+    if even {
+        return undo_lower(down, true, col, fa, row, fb, i, 0, n, v, x);
+    }
+    undo_lower(down, false, col, fa, row, fb, i, 0, n, v, x)
 }
 
 // All elements of row i under an upper factor.
 fn undo_upper_elements(
-    rule: Rule,
+    down: bool,
+    even: bool,
     col: &[i32],
     fa: Layout,
     row: &[i32],
@@ -239,31 +248,35 @@ fn undo_upper_elements(
     x: &mut [i32; Block::CELLS],
 ) -> Outcome
     requires { ⌜ UndoGiven (now col) fa (now row) fb i 0 (now x) (now v) × (fb .kind ≡ Upper) ⌝ }
-    ensures { λ r. ⌜ RowDone bound (undoneOf rule (now (col .entry)) fa (now (row .entry)) fb) (undoneTurn fb i) (fb .order)
-        (now (x .entry)) (now (x .exit)) (r .ok) ⌝ }
+    ensures { λ r. ⌜ RowDone bound (undoneOf (ruleBy down even) (now (col .entry)) fa (now (row .entry)) fb) (undoneTurn fb i)
+        (fb .order) (now (x .entry)) (now (x .exit)) (r .ok) ⌝ }
 {
     let n = fb.order;
-    if n == 16 {
-        let a = undo_upper(rule, col, fa, row, fb, 16, i, 0, 4, v, x);
+    if is_written(even, n, 16) {
+        let a = undo_upper(down, false, col, fa, row, fb, 16, i, 0, 4, v, x);
         if !a.ok {
             return a;
         }
-        let b = undo_upper(rule, col, fa, row, fb, 16, i, 4, 8, v, x);
+        let b = undo_upper(down, false, col, fa, row, fb, 16, i, 4, 8, v, x);
         if !b.ok {
             return b;
         }
-        let c = undo_upper(rule, col, fa, row, fb, 16, i, 8, 12, v, x);
+        let c = undo_upper(down, false, col, fa, row, fb, 16, i, 8, 12, v, x);
         if !c.ok {
             return c;
         }
-        return undo_upper(rule, col, fa, row, fb, 16, i, 12, 16, v, x);
+        return undo_upper(down, false, col, fa, row, fb, 16, i, 12, 16, v, x);
     }
-    undo_upper(rule, col, fa, row, fb, n, i, 0, n, v, x)
+    if even {
+        return undo_upper(down, true, col, fa, row, fb, n, i, 0, n, v, x);
+    }
+    undo_upper(down, false, col, fa, row, fb, n, i, 0, n, v, x)
 }
 
 // Row i of rows of four under a lower factor. The width is a literal here, so that sums and elements stay in registers.
 fn undo_lower_four(
-    rule: Rule,
+    down: bool,
+    even: bool,
     col: &[i32],
     fa: Layout,
     row: &[i32],
@@ -272,17 +285,20 @@ fn undo_lower_four(
     x: &mut [i32; Block::CELLS],
 ) -> Outcome
     requires { ⌜ RowAsks (now col) fa (now row) fb i (now x) × (fb .kind ≡ Lower) × (fb .order ≡ 4) ⌝ }
-    ensures { λ r. ⌜ RowDone bound (undoneOf rule (now (col .entry)) fa (now (row .entry)) fb) (undoneTurn fb i) (fb .order)
-        (now (x .entry)) (now (x .exit)) (r .ok) ⌝ }
+    ensures { λ r. ⌜ RowDone bound (undoneOf (ruleBy down even) (now (col .entry)) fa (now (row .entry)) fb) (undoneTurn fb i)
+        (fb .order) (now (x .entry)) (now (x .exit)) (r .ok) ⌝ }
 {
     let mut v = [0i64; Block::LINE];
     lower_rest_sums(col, fa, i, x, 4, &mut v);
-    undo_lower(rule, col, fa, row, fb, i, 0, 4, &mut v, x)
+    if even {
+        return undo_lower(down, true, col, fa, row, fb, i, 0, 4, &mut v, x);
+    }
+    undo_lower(down, false, col, fa, row, fb, i, 0, 4, &mut v, x)
 }
 
 // The same for rows of eight.
 fn undo_lower_eight(
-    rule: Rule,
+    down: bool,
     col: &[i32],
     fa: Layout,
     row: &[i32],
@@ -291,21 +307,22 @@ fn undo_lower_eight(
     x: &mut [i32; Block::CELLS],
 ) -> Outcome
     requires { ⌜ RowAsks (now col) fa (now row) fb i (now x) × (fb .kind ≡ Lower) × (fb .order ≡ 8) ⌝ }
-    ensures { λ r. ⌜ RowDone bound (undoneOf rule (now (col .entry)) fa (now (row .entry)) fb) (undoneTurn fb i) (fb .order)
-        (now (x .entry)) (now (x .exit)) (r .ok) ⌝ }
+    ensures { λ r. ⌜ RowDone bound (undoneOf (ruleBy down false) (now (col .entry)) fa (now (row .entry)) fb) (undoneTurn fb i)
+        (fb .order) (now (x .entry)) (now (x .exit)) (r .ok) ⌝ }
 {
     let mut v = [0i64; Block::LINE];
     lower_rest_sums(col, fa, i, x, 8, &mut v);
-    let a = undo_lower(rule, col, fa, row, fb, i, 0, 4, &mut v, x);
+    let a = undo_lower(down, false, col, fa, row, fb, i, 0, 4, &mut v, x);
     if !a.ok {
         return a;
     }
-    undo_lower(rule, col, fa, row, fb, i, 4, 8, &mut v, x)
+    undo_lower(down, false, col, fa, row, fb, i, 4, 8, &mut v, x)
 }
 
 // Row i under a lower factor: the sums without it, over the rows above it, then its elements.
 pub fn undo_lower_row(
-    rule: Rule,
+    down: bool,
+    even: bool,
     col: &[i32],
     fa: Layout,
     row: &[i32],
@@ -314,24 +331,25 @@ pub fn undo_lower_row(
     x: &mut [i32; Block::CELLS],
 ) -> Outcome
     requires { ⌜ RowAsks (now col) fa (now row) fb i (now x) × (fb .kind ≡ Lower) ⌝ }
-    ensures { λ r. ⌜ RowDone bound (undoneOf rule (now (col .entry)) fa (now (row .entry)) fb) (undoneTurn fb i) (fb .order)
-        (now (x .entry)) (now (x .exit)) (r .ok) ⌝ }
+    ensures { λ r. ⌜ RowDone bound (undoneOf (ruleBy down even) (now (col .entry)) fa (now (row .entry)) fb) (undoneTurn fb i)
+        (fb .order) (now (x .entry)) (now (x .exit)) (r .ok) ⌝ }
 {
     let n = fb.order;
     if n == 4 {
-        return undo_lower_four(rule, col, fa, row, fb, i, x);
+        return undo_lower_four(down, even, col, fa, row, fb, i, x);
     }
-    if n == 8 {
-        return undo_lower_eight(rule, col, fa, row, fb, i, x);
+    if is_written(even, n, 8) {
+        return undo_lower_eight(down, col, fa, row, fb, i, x);
     }
     let mut v = [0i64; Block::LINE];
     lower_rest_sums(col, fa, i, x, n, &mut v);
-    undo_lower_elements(rule, col, fa, row, fb, i, &mut v, x)
+    undo_lower_elements(down, even, col, fa, row, fb, i, &mut v, x)
 }
 
 // Row i of rows of four under an upper factor. The width is a literal here, so that sums and elements stay in registers.
 fn undo_upper_four(
-    rule: Rule,
+    down: bool,
+    even: bool,
     col: &[i32],
     fa: Layout,
     row: &[i32],
@@ -340,17 +358,20 @@ fn undo_upper_four(
     x: &mut [i32; Block::CELLS],
 ) -> Outcome
     requires { ⌜ RowAsks (now col) fa (now row) fb i (now x) × (fb .kind ≡ Upper) × (fb .order ≡ 4) ⌝ }
-    ensures { λ r. ⌜ RowDone bound (undoneOf rule (now (col .entry)) fa (now (row .entry)) fb) (undoneTurn fb i) (fb .order)
-        (now (x .entry)) (now (x .exit)) (r .ok) ⌝ }
+    ensures { λ r. ⌜ RowDone bound (undoneOf (ruleBy down even) (now (col .entry)) fa (now (row .entry)) fb) (undoneTurn fb i)
+        (fb .order) (now (x .entry)) (now (x .exit)) (r .ok) ⌝ }
 {
     let mut v = [0i64; Block::LINE];
     upper_rest_sums(col, fa, i, x, 4, &mut v);
-    undo_upper(rule, col, fa, row, fb, 4, i, 0, 4, &mut v, x)
+    if even {
+        return undo_upper(down, true, col, fa, row, fb, 4, i, 0, 4, &mut v, x);
+    }
+    undo_upper(down, false, col, fa, row, fb, 4, i, 0, 4, &mut v, x)
 }
 
 // The same for rows of eight.
 fn undo_upper_eight(
-    rule: Rule,
+    down: bool,
     col: &[i32],
     fa: Layout,
     row: &[i32],
@@ -359,21 +380,22 @@ fn undo_upper_eight(
     x: &mut [i32; Block::CELLS],
 ) -> Outcome
     requires { ⌜ RowAsks (now col) fa (now row) fb i (now x) × (fb .kind ≡ Upper) × (fb .order ≡ 8) ⌝ }
-    ensures { λ r. ⌜ RowDone bound (undoneOf rule (now (col .entry)) fa (now (row .entry)) fb) (undoneTurn fb i) (fb .order)
-        (now (x .entry)) (now (x .exit)) (r .ok) ⌝ }
+    ensures { λ r. ⌜ RowDone bound (undoneOf (ruleBy down false) (now (col .entry)) fa (now (row .entry)) fb) (undoneTurn fb i)
+        (fb .order) (now (x .entry)) (now (x .exit)) (r .ok) ⌝ }
 {
     let mut v = [0i64; Block::LINE];
     upper_rest_sums(col, fa, i, x, 8, &mut v);
-    let a = undo_upper(rule, col, fa, row, fb, 8, i, 0, 4, &mut v, x);
+    let a = undo_upper(down, false, col, fa, row, fb, 8, i, 0, 4, &mut v, x);
     if !a.ok {
         return a;
     }
-    undo_upper(rule, col, fa, row, fb, 8, i, 4, 8, &mut v, x)
+    undo_upper(down, false, col, fa, row, fb, 8, i, 4, 8, &mut v, x)
 }
 
 // Row i under an upper factor: the sums without it, over the rows below it, then its elements.
 pub fn undo_upper_row(
-    rule: Rule,
+    down: bool,
+    even: bool,
     col: &[i32],
     fa: Layout,
     row: &[i32],
@@ -382,17 +404,17 @@ pub fn undo_upper_row(
     x: &mut [i32; Block::CELLS],
 ) -> Outcome
     requires { ⌜ RowAsks (now col) fa (now row) fb i (now x) × (fb .kind ≡ Upper) ⌝ }
-    ensures { λ r. ⌜ RowDone bound (undoneOf rule (now (col .entry)) fa (now (row .entry)) fb) (undoneTurn fb i) (fb .order)
-        (now (x .entry)) (now (x .exit)) (r .ok) ⌝ }
+    ensures { λ r. ⌜ RowDone bound (undoneOf (ruleBy down even) (now (col .entry)) fa (now (row .entry)) fb) (undoneTurn fb i)
+        (fb .order) (now (x .entry)) (now (x .exit)) (r .ok) ⌝ }
 {
     let n = fb.order;
     if n == 4 {
-        return undo_upper_four(rule, col, fa, row, fb, i, x);
+        return undo_upper_four(down, even, col, fa, row, fb, i, x);
     }
-    if n == 8 {
-        return undo_upper_eight(rule, col, fa, row, fb, i, x);
+    if is_written(even, n, 8) {
+        return undo_upper_eight(down, col, fa, row, fb, i, x);
     }
     let mut v = [0i64; Block::LINE];
     upper_rest_sums(col, fa, i, x, n, &mut v);
-    undo_upper_elements(rule, col, fa, row, fb, i, &mut v, x)
+    undo_upper_elements(down, even, col, fa, row, fb, i, &mut v, x)
 }

@@ -1,6 +1,6 @@
--- Division by any positive divisor, over the kit's shrZ: the floor, also below zero; the nearest, halves upward; the ceiling.
+-- Division by any positive divisor, over the kit's shrZ: the floor, also below zero; the ceiling.
 use mathlib.Core.Path.{_≡_, refl}
-use Prim.Native.Nat.{ℕ, zero, suc, _*_, _-_, _/_, _≤_, _<_}
+use Prim.Native.Nat.{ℕ, zero, suc, _+_, _-_, _<_}
 use native.Mathlib.Nat.{div-add-mod, mod-lt}
 use native.Mathlib.Omega.{arith}
 use lib.IntN.{ℤ, pos, negsuc, _+ℤ_, _-ℤ_, _*ℤ_, natAbs}
@@ -29,12 +29,10 @@ shr-unique s m q lo hi =
     (given₂ lo (shr-hi s m h) (simp lia (omega arith))) in
     given₁ e (simp lia (omega arith))
 
--- ---- the nearest: off by half of S at most, and exact at a multiple
-pub nearest-near : (S : ℕ) (s : ℤ) → 0 < S → 4096 * natAbs (pos S *ℤ shrZ (s +ℤ pos (S / 2)) S -ℤ s) ≤ 2048 * S
-nearest-near S s h = given₂ (shr-lo (s +ℤ pos (S / 2)) S h) (shr-hi (s +ℤ pos (S / 2)) S h) (simp lia (omega arith))
-
-pub nearest-whole : (S : ℕ) (q : ℤ) → 0 < S → shrZ (pos S *ℤ q +ℤ pos (S / 2)) S ≡ q
-nearest-whole S q h = shr-unique (pos S *ℤ q +ℤ pos (S / 2)) S q (simp lia (omega arith)) (simp lia (omega arith))
+-- what is missing to the next number, and what is left over the floor
+pub over-next : (m : ℕ) (s q : ℤ) → (pos m *ℤ q) ≤ℤ s → s <ℤ (pos m *ℤ q +ℤ pos m) →
+    natAbs (s -ℤ (pos m *ℤ (q +ℤ pos 1))) + natAbs (s -ℤ (pos m *ℤ q)) ≡ m
+over-next m s q lo hi = given₂ lo hi (simp lia (omega arith))
 
 -- ---- the ceiling
 pub ceiling-up : (S : ℕ) (s : ℤ) → 0 < S → s ≤ℤ (pos S *ℤ shrZ (s +ℤ pos (S - 1)) S)

@@ -4,6 +4,7 @@ use mathlib.Core.Bool.{true}
 use mathlib.Core.Path.{_≡_, sym, _∙_}
 use Prim.Native.Nat.{_+_}
 use lib.ListN.{length}
+use Rattle.rules.specs.declared.Rule.{Rule}
 use Rattle.rules.specs.declared.Kind.the-variants.{Lower, Upper, Single}
 use Rattle.rules.specs.declared.Item.the-variants.{Row}
 use Rattle.rules.specs.Numbers.{count}
@@ -11,10 +12,15 @@ use Rattle.rules.specs.Sheets.{kindOf, triangle}
 use Rattle.rules.specs.Factors.{signsAt}
 use Rattle.laws.specs.Readers.{Seen}
 use Rattle.laws.specs.Accepted.{entriesOf, never, row-is, row-counts}
+use Rattle.factor.specs.Rounding.{ruleBy}
 use Rattle.four.specs.TurnLaws.{factor-in, became-is}
 use Rattle.four.specs.Stages.{moved-is, lower-is, upper-is, single-is}
 use Rattle.four.proofs.undone_stage.Statement.{statement}
 use Rattle.four.proofs.undone_stage.Tie as tie
+
+-- the rule of the two tests
+abbrev K : tie.Start → Rule
+K s = ruleBy (s .args .down) (s .args .even)
 
 len : (s : tie.Start) → length (s .args .y) ≡ 4
 len s = search needs
@@ -36,7 +42,7 @@ returns : tie.Need-returns
 returns c =
     let e = c .before in
     let s = e .before .before .before in
-    became-is (moved-is (s .args .rule) true (s .args .sheet .now) (s .args .i) (s .args .y)
+    became-is (moved-is (K s) true (s .args .sheet .now) (s .args .i) (s .args .y)
     (sym (e .before .before .kind-at .ensures) ∙ e .enum-told .given .1)) (c .undone .ensures)
 
 enum-told-2 : tie.Need-enum-told-2
@@ -57,7 +63,7 @@ returns-2 : tie.Need-returns-2
 returns-2 c =
     let e = c .before in
     let s = e .before .before .before in
-    became-is (lower-is (s .args .rule) true (s .args .sheet .now) (s .args .i) (s .args .y) (len s)
+    became-is (lower-is (K s) true (s .args .sheet .now) (s .args .i) (s .args .y) (len s)
     (sym (e .before .before .kind-at .ensures) ∙ e .enum-told2 .given .1)) (c .lower .ensures)
 
 enum-told-3 : tie.Need-enum-told-3
@@ -78,7 +84,7 @@ returns-3 : tie.Need-returns-3
 returns-3 c =
     let e = c .before in
     let s = e .before .before .before in
-    became-is (upper-is (s .args .rule) true (s .args .sheet .now) (s .args .i) (s .args .y) (len s)
+    became-is (upper-is (K s) true (s .args .sheet .now) (s .args .i) (s .args .y) (len s)
     (sym (e .before .before .kind-at .ensures) ∙ e .enum-told3 .given .1)) (c .upper .ensures)
 
 enum-told-4 : tie.Need-enum-told-4
@@ -113,7 +119,7 @@ returns-4 : tie.Need-returns-4
 returns-4 c =
     let e = c .before .before in
     let s = e .before .before .before in
-    became-is (single-is (s .args .rule) true (s .args .sheet .now) (s .args .i) (s .args .y) (len s) (kind e) _
+    became-is (single-is (K s) true (s .args .sheet .now) (s .args .i) (s .args .y) (len s) (kind e) _
     (rw (c .before .count-at .ensures) (row-is (row e) .1)) (sym (c .before .count-at .ensures))) (c .single .ensures)
 
 pub undone-stage-spec : {M : Type 1} → statement M

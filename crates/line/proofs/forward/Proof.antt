@@ -5,19 +5,16 @@ use Rattle.factor.specs.CallAnswers.{NoneLent}
 use Rattle.line.proofs.forward.Statement.{statement}
 use Rattle.line.proofs.forward.Tie as tie
 
-nearest-requires : tie.Need-nearest-requires
-nearest-requires c κs = search needs
-
-call-requires : tie.Need-call-requires
+call-by-requires : tie.Need-call-by-requires
 unfolding NoneLent
-call-requires c κs = rw (c .before .nearest .ensures) tt
+call-by-requires c κs = tt
 
 same-length : tie.Need-same-length
 same-length c = search needs
 
 returns : tie.Need-returns
 unfolding callBy
-returns c = let r = c .before in rw (r .before .before .nearest .ensures) at (r .call .ensures)
+returns c = c .before .call-by .ensures
 
 pub forward-spec : {M : Type 1} → statement M
-forward-spec = tie.close (tie.spec nearest-requires call-requires same-length returns)
+forward-spec = tie.close (tie.spec call-by-requires same-length returns)

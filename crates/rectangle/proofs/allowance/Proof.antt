@@ -6,28 +6,25 @@ use Rattle.factor.specs.CallAnswers.{NoneLent}
 use Rattle.rectangle.proofs.allowance.Statement.{statement}
 use Rattle.rectangle.proofs.allowance.Tie as tie
 
-sub-call : tie.Need-sub-call
-sub-call c = search needs
+sub-call-by : tie.Need-sub-call-by
+sub-call-by c = search needs
 
-part-call-start : tie.Need-part-call-start
-part-call-start c = search needs
+part-call-by-start : tie.Need-part-call-by-start
+part-call-by-start c = search needs
 
-part-call-end : tie.Need-part-call-end
-part-call-end c = search needs
+part-call-by-end : tie.Need-part-call-by-end
+part-call-by-end c = search needs
 
-nearest-requires : tie.Need-nearest-requires
-nearest-requires c κs = search needs
-
-call-requires : tie.Need-call-requires
+call-by-requires : tie.Need-call-by-requires
 unfolding NoneLent
-call-requires c κs = rw (c .before .before .nearest .ensures) refl
+call-by-requires c κs = refl
 
 same-length : tie.Need-same-length
 same-length c = search needs
 
 returns : tie.Need-returns
 unfolding callBy
-returns c = let r = c .before in rw (r .before .before .before .nearest .ensures) at (r .call .ensures)
+returns c = c .before .call-by .ensures
 
 pub allowance-spec : {M : Type 1} → statement M
-allowance-spec = tie.close (tie.spec nearest-requires sub-call part-call-start part-call-end call-requires same-length returns)
+allowance-spec = tie.close (tie.spec sub-call-by part-call-by-start part-call-by-end call-by-requires same-length returns)

@@ -6,6 +6,7 @@ use lib.IntN.{_*ℤ_}
 use mir.Facts.{toZ-ofZ}
 use mir.Syntax.{w32, w64}
 use mir.Val.{toZ, ofZ}
+use Rattle.factor.specs.Rounding.{ruleBy}
 use Rattle.whole.specs.Diff.{Within}
 use Rattle.whole.specs.Stated.{Sign}
 use Rattle.whole.specs.Machine.{fits, reads, back, sign-within, within-sign, within-+}
@@ -43,7 +44,8 @@ rounded-beside-requires c κs =
 
 rounded : (c : tie.After-rounded-beside) → let s = c .before .before .before in
     toZ w64 (ofZ w64 (c .rounded-beside .result))
-    ≡ R (s .args .rule) unit (s .args .d *ℤ narrowSum (s .args .w .now) (s .args .x .now) (s .args .k) (s .args .n))
+    ≡ R (ruleBy (s .args .down) (s .args .even)) unit (s .args .d *ℤ narrowSum (s .args .w .now) (s .args .x .now) (s .args .k)
+    (s .args .n))
 rounded c =
     back w64 _ (c .rounded-beside .ok) ∙ c .rounded-beside .ensures
     ∙ rw (toZ-ofZ (c .before .before .before .fits .d))
@@ -56,7 +58,7 @@ applied-requires c κs =
     let s = c .before .before .before in
     let e = product s in
     let x = within-sign e (number s) in
-    let q = rounded-sum-small (s .pre .1) (s .pre .0 .sign) (s .args .rule) in
+    let q = rounded-sum-small (s .pre .1) (s .pre .0 .sign) (ruleBy (s .args .down) (s .args .even)) in
     rw (rounded c, sign (c .before .before), reads w32 (number s) tt)
     (fits (sign-within e) tt, fits (number s) tt, fits x tt, fits (within-+ x q) tt)
 

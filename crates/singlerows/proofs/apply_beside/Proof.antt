@@ -10,6 +10,7 @@ use Rattle.whole.specs.Diff.{Within}
 use Rattle.whole.specs.Machine.{fits, reads, back}
 use Rattle.rules.specs.Numbers.{bound, at}
 use Rattle.factor.specs.SumBounds.{bounded-set, test-no, test-yes}
+use Rattle.factor.specs.Rounding.{ruleBy}
 use Rattle.joint.specs.Elements.{signAt, appliedOf}
 use Rattle.singlerows.specs.SingleRows.{Turned}
 use Rattle.singlerows.specs.SingleRowsInPlace.{row-through, row-beyond, turned-small, applied-row}
@@ -40,14 +41,16 @@ applied-beside-requires c κs =
 -- what its element in column q becomes
 abbrev Z : tie.Start → ℤ
 Z s =
-    appliedOf (s .args .rule) (s .args .col .now) (s .args .fa) (s .args .row .now) (s .args .fb) (s .args .x .now)
+    appliedOf (ruleBy (s .args .down) (s .args .even)) (s .args .col .now) (s .args .fa) (s .args .row .now) (s .args .fb)
+    (s .args .x .now)
     (s .args .i * s .args .fb .order + s .args .fb .row)
 
 value : (c : tie.After-applied-beside) → toZ w64 (ofZ w64 (c .applied-beside .result)) ≡ Z (c .before .before .before)
 value c =
     let s = c .before .before .before in
     back w64 _ (c .applied-beside .ok) ∙ c .applied-beside .ensures
-    ∙ rw (sign (c .before .before)) (applied-laid (s .pre .0) (s .pre .3) (s .args .rule) (s .pre .1) (s .pre .2))
+    ∙ rw (sign (c .before .before)) (applied-laid (s .pre .0) (s .pre .3) (ruleBy (s .args .down) (s .args .even)) (s .pre .1)
+    (s .pre .2))
 
 is-within-requires : tie.Need-is-within-requires
 is-within-requires c κs = tt
@@ -77,11 +80,11 @@ cast-x c = let e = c .before .before in rw (value (e .before .before)) (fits (he
 place : (s : tie.Start) → s .args .i * s .args .n + s .args .fb .row < 256
 place s = let h = laid-room (s .pre .0) (s .pre .3) in let l = laid-column (s .pre .0) (s .pre .3) in omega arith
 
-add-t21 : tie.Need-add-t21
-add-t21 c = let h = place (c .before .before .before .before .before .before .before) in omega arith
+add-t22 : tie.Need-add-t22
+add-t22 c = let h = place (c .before .before .before .before .before .before .before) in omega arith
 
-mul-t22 : tie.Need-mul-t22
-mul-t22 c = let h = place (c .before .before .before .before .before .before .before) in omega arith
+mul-t23 : tie.Need-mul-t23
+mul-t23 c = let h = place (c .before .before .before .before .before .before .before) in omega arith
 
 element-set-from-x : tie.Need-element-set-from-x
 element-set-from-x c = place (c .before .before .before .before .before .before .before)
@@ -102,12 +105,13 @@ returns-2 c =
     let t = turned c in
     rw (value (e .before .before), reads w32 (held e) tt, l .order)
     (row-through
-    (applied-row (s .args .rule) (s .args .col .now) (s .args .fa) (s .args .i) (a .alike ∙ s .pre .1) (s .pre .2) (s .pre .1)
+    (applied-row (ruleBy (s .args .down) (s .args .even)) (s .args .col .now) (s .args .fa) (s .args .i) (a .alike ∙ s .pre .1)
+    (s .pre .2) (s .pre .1)
     (a .row) (a .low) (s .args .x .now) (let h = rw (l .order) at (laid-room a l) in omega (arith, a .long)) t refl)
     (bounded-set _ _ (turned-small t (a .column .sign (s .args .i) (a .below)) (a .row .sign) (a .small)) (held e)))
 
 pub apply-beside-spec : {M : Type 1} → statement M
 apply-beside-spec =
     tie.close
-    (tie.spec sign-at-requires mul-k applied-beside-requires is-within-requires returns turn-row-requires cast-x add-t21 mul-t22
+    (tie.spec sign-at-requires mul-k applied-beside-requires is-within-requires returns turn-row-requires cast-x add-t22 mul-t23
     element-set-from-x returns-2)

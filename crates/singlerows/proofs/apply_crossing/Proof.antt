@@ -5,6 +5,7 @@ use Prim.Native.Nat.{_+_, _-_, _*_, _≤_}
 use native.Mathlib.Omega.{arith}
 use mir.Syntax.{w32}
 use mir.Val.{toZ, ofZ}
+use Rattle.factor.specs.Rounding.{ruleBy}
 use Rattle.whole.specs.Machine.{back}
 use Rattle.joint.specs.Elements.{signAt, sums-small}
 use Rattle.joint.specs.RowsInPlace.{in-block}
@@ -52,7 +53,8 @@ apply-elements-requires c κs =
 returns : tie.Need-returns
 returns c =
     let s = c .before .before .before .before .before .before .before in
-    applied-row (s .args .rule) (s .args .col .now) (s .args .fa) (s .args .row .now) (s .args .fb) (s .args .i) (s .args .x .now)
+    applied-row (ruleBy (s .args .down) (s .args .even)) (s .args .col .now) (s .args .fa) (s .args .row .now) (s .args .fb)
+    (s .args .i) (s .args .x .now)
     (rw (sign (c .before .before .before), c .before .before .before .before .sums-at .ensures) at (c .apply-elements .ensures))
 
 pub apply-crossing-spec : {M : Type 1} → statement M

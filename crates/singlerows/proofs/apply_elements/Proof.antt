@@ -13,6 +13,7 @@ use Rattle.whole.specs.Machine.{fits, reads, back}
 use Rattle.rules.specs.Numbers.{bound, at}
 use Rattle.factor.specs.SumBounds.{Bounded, bounded-set, test-no, test-yes}
 use Rattle.factor.specs.InPlace.{inPlace, length-in-place}
+use Rattle.factor.specs.Rounding.{ruleBy}
 use Rattle.joint.specs.Elements.{signAt, rest-element-small}
 use Rattle.joint.specs.Triangles.{totalOf, appliedIn, applied-from, applied-in}
 use Rattle.singlerows.specs.SingleRowsInPlace.{row-through, row-beyond, turn-beyond, turn-next}
@@ -20,11 +21,11 @@ use Rattle.singlerows.proofs.apply_elements.Statement.{statement}
 use Rattle.singlerows.proofs.apply_elements.Tie as tie
 
 abbrev Inv-loop : tie.InvT-loop
-Inv-loop rule row f d v k x₀ n total j₀ x j =
-    (j ≤ n) × (x ≡ inPlace (appliedIn rule row f (toZ w32 d) v k) (λ u. k + u) j x₀) × Bounded bound x
+Inv-loop down even row f d v k x₀ n total j₀ x j =
+    (j ≤ n) × (x ≡ inPlace (appliedIn (ruleBy down even) row f (toZ w32 d) v k) (λ u. k + u) j x₀) × Bounded bound x
 
 abbrev μ-loop : tie.MeasureT-loop
-μ-loop rule row f d v k x₀ n total j₀ x j = n - j
+μ-loop down even row f d v k x₀ n total j₀ x j = n - j
 
 -- what was lent
 abbrev S : tie.In-loop Inv-loop μ-loop → tie.Start Inv-loop μ-loop
@@ -96,7 +97,7 @@ applied-whole-requires c κs =
 abbrev F : tie.In-loop Inv-loop μ-loop → ℤ
 F c =
     let a = S c .args in
-    appliedIn (a .rule) (a .row .now) (a .f) (toZ w32 (ofZ w32 (a .d))) (a .v .now) (a .k) (c .before .loop .x)
+    appliedIn (ruleBy (a .down) (a .even)) (a .row .now) (a .f) (toZ w32 (ofZ w32 (a .d))) (a .v .now) (a .k) (c .before .loop .x)
     (a .k + c .before .loop .j)
 
 value : (c : tie.After-applied-whole Inv-loop μ-loop) →
@@ -107,8 +108,10 @@ value c =
     let l = i .before .loop in
     back w64 _ (c .applied-whole .ok) ∙ c .applied-whole .ensures
     ∙ rw (total (c .before .before .before), sign (c .before .before), number i)
-    (applied-from (a .rule) (a .row .now) (a .f) (l .j) (toZ w32 (ofZ w32 (a .d))) (a .v .now) (at (l .x) (a .k + l .j))
-    ∙ sym (applied-in (a .rule) (a .row .now) (a .f) (toZ w32 (ofZ w32 (a .d))) (a .v .now) (a .k) (l .j) (l .x)))
+    (applied-from (ruleBy (a .down) (a .even)) (a .row .now) (a .f) (l .j) (toZ w32 (ofZ w32 (a .d))) (a .v .now) (at (l .x)
+    (a .k + l .j))
+    ∙ sym (applied-in (ruleBy (a .down) (a .even)) (a .row .now) (a .f) (toZ w32 (ofZ w32 (a .d))) (a .v .now) (a .k) (l .j)
+    (l .x)))
 
 is-within-requires : tie.Need-is-within-requires Inv-loop μ-loop
 is-within-requires c κs = tt
@@ -129,11 +132,11 @@ held c = test-yes bound (value (c .before .before)) (c .before .is-within .ensur
 cast-x : tie.Need-cast-x Inv-loop μ-loop
 cast-x c = rw (value (c .before .before)) (fits (held c) tt)
 
-add-t15 : tie.Need-add-t15 Inv-loop μ-loop
-add-t15 c = let h = room (c .before .before .before .before .before .before) in omega arith
+add-t16 : tie.Need-add-t16 Inv-loop μ-loop
+add-t16 c = let h = room (c .before .before .before .before .before .before) in omega arith
 
-mul-t16 : tie.Need-mul-t16 Inv-loop μ-loop
-mul-t16 c = let h = room (c .before .before .before .before .before .before) in omega arith
+mul-t17 : tie.Need-mul-t17 Inv-loop μ-loop
+mul-t17 c = let h = room (c .before .before .before .before .before .before) in omega arith
 
 element-set-from-x : tie.Need-element-set-from-x Inv-loop μ-loop
 element-set-from-x c = room (c .before .before .before .before .before .before)
@@ -166,5 +169,5 @@ pub apply-elements-spec : {M : Type 1} → statement M
 apply-elements-spec =
     tie.close
     (tie.spec Inv-loop μ-loop column-total-requires loop-holds crossing-total-requires sign-at-requires add-applied-whole
-    mul-applied-whole element-copy-out-applied-whole applied-whole-requires is-within-requires returns cast-x add-t15 mul-t16
+    mul-applied-whole element-copy-out-applied-whole applied-whole-requires is-within-requires returns cast-x add-t16 mul-t17
     element-set-from-x add-j loop-less loop-again returns-2)

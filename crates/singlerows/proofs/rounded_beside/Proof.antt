@@ -1,13 +1,14 @@
 -- The sum is small (`turned-sum-small`), so it and its rounding fit 64 bits.
 use borrow.Author.Needs.{needs}
 use mathlib.Core.Path.{_≡_, sym, ap₂, subst, _∙_}
+use native.Mathlib.Omega.{arith}
 use lib.IntN.{_*ℤ_}
 use mir.Facts.{toZ-ofZ}
 use mir.Syntax.{w64}
 use mir.Val.{SFits, toZ, ofZ}
 use Rattle.whole.specs.Stated.{Sign}
-use Rattle.whole.specs.Machine.{fits, back, within-+, within-pos}
-use Rattle.singlerows.specs.SingleRows.{narrowSum, turned-sum-small, rounded-sum-small}
+use Rattle.whole.specs.Machine.{fits, back, within-le}
+use Rattle.singlerows.specs.SingleRows.{narrowSum, turned-sum-small}
 use Rattle.singlerows.proofs.rounded_beside.Statement.{statement}
 use Rattle.singlerows.proofs.rounded_beside.Tie as tie
 
@@ -36,9 +37,7 @@ value c =
 round-line-requires : tie.Need-round-line-requires
 round-line-requires c κs =
     let s = c .before .before in
-    let a = s .pre .0 in
-    let g = s .pre .1 in
-    rw (value c) (fits (within-+ (turned-sum-small a g) (within-pos 2048)) tt, fits (rounded-sum-small a g (s .args .rule)) tt)
+    rw (value c) (within-le (omega arith) (turned-sum-small (s .pre .0) (s .pre .1)))
 
 returns : tie.Need-returns
 returns c = back w64 _ (c .round-line .ok) ∙ c .round-line .ensures .0 ∙ rw (value (c .before))

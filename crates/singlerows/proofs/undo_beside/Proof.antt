@@ -11,6 +11,7 @@ use Rattle.whole.specs.Diff.{Within}
 use Rattle.whole.specs.Machine.{fits, reads, back}
 use Rattle.rules.specs.Numbers.{bound, at}
 use Rattle.factor.specs.SumBounds.{Bounded, bounded-set, test-no, test-yes}
+use Rattle.factor.specs.Rounding.{ruleBy}
 use Rattle.joint.specs.Elements.{signAt}
 use Rattle.singlerows.specs.SingleRows.{besideSum, undoneBeside, Turned}
 use Rattle.singlerows.specs.SingleRowsInPlace.{row-through, row-beyond, turned-small, undone-row, undone-stops}
@@ -80,7 +81,7 @@ Z c =
     let s = c .before .before .before .before in
     let k = s .args .i * s .args .fb .order in
     let q = s .args .fb .row in
-    undoneBeside (s .args .rule) (D s) (signAt (s .args .row .now) (s .args .fb) q)
+    undoneBeside (ruleBy (s .args .down) (s .args .even)) (D s) (signAt (s .args .row .now) (s .args .fb) q)
     (besideSum (s .args .row .now) (s .args .fb) q k (c .turn-row .last .1 .1 .1 .1 .0)) (at (s .args .x .now) (k + q))
 
 value : (c : tie.After-undone-beside) → toZ w64 (ofZ w64 (c .undone-beside .result)) ≡ Z (c .before .before)
@@ -89,7 +90,7 @@ value c =
     let s = g .before in
     back w64 _ (c .undone-beside .ok) ∙ c .undone-beside .ensures
     ∙ rw (sign g, reads w32 (number s) tt)
-    (undone-laid (s .pre .0) (s .pre .3) (s .args .rule) (s .pre .1) (s .args .x .now) _)
+    (undone-laid (s .pre .0) (s .pre .3) (ruleBy (s .args .down) (s .args .even)) (s .pre .1) (s .args .x .now) _)
 
 is-within-requires : tie.Need-is-within-requires
 is-within-requires c κs = tt
@@ -107,7 +108,8 @@ returns c =
     let s = z .before .before .before .before .before .before in
     let a = s .pre .0 in
     row-beyond (t .long)
-    (undone-stops (s .args .rule) (s .args .col .now) (s .args .fa) (s .args .i) (a .alike ∙ s .pre .1) (s .pre .2) (s .pre .1)
+    (undone-stops (ruleBy (s .args .down) (s .args .even)) (s .args .col .now) (s .args .fa) (s .args .i)
+    (a .alike ∙ s .pre .1) (s .pre .2) (s .pre .1)
     (a .row) (a .low) (s .args .x .now) (room s) t refl
     (test-no bound (value z) (c .before .is-within .ensures) (not-true _ (c .if1 .taken))))
 
@@ -117,11 +119,11 @@ held c = test-yes bound (value (c .before .before)) (c .before .is-within .ensur
 cast-x : tie.Need-cast-x
 cast-x c = rw (value (c .before .before)) (fits (held c) tt)
 
-add-t16 : tie.Need-add-t16
-add-t16 c = let h = place (c .before .before .before .before .before .before .before .before) in omega arith
+add-t17 : tie.Need-add-t17
+add-t17 c = let h = place (c .before .before .before .before .before .before .before .before) in omega arith
 
-mul-t17 : tie.Need-mul-t17
-mul-t17 c = let h = place (c .before .before .before .before .before .before .before .before) in omega arith
+mul-t18 : tie.Need-mul-t18
+mul-t18 c = let h = place (c .before .before .before .before .before .before .before .before) in omega arith
 
 element-set-from-x : tie.Need-element-set-from-x
 element-set-from-x c = place (c .before .before .before .before .before .before .before .before)
@@ -134,7 +136,8 @@ returns-2 c =
     let a = s .pre .0 in
     rw (value z, reads w32 (held c) tt, s .pre .3 .order)
     (row-through
-    (undone-row (s .args .rule) (s .args .col .now) (s .args .fa) (s .args .i) (a .alike ∙ s .pre .1) (s .pre .2) (s .pre .1)
+    (undone-row (ruleBy (s .args .down) (s .args .even)) (s .args .col .now) (s .args .fa) (s .args .i) (a .alike ∙ s .pre .1)
+    (s .pre .2) (s .pre .1)
     (a .row) (a .low) (s .args .x .now) (room s) t refl)
     (bounded-set _ _ (small (z .before .before)) (held c)))
 
@@ -142,4 +145,4 @@ pub undo-beside-spec : {M : Type 1} → statement M
 undo-beside-spec =
     tie.close
     (tie.spec sign-at-requires mul-k add-y mul-y element-copy-out-y turn-row-requires undone-beside-requires is-within-requires
-    returns cast-x add-t16 mul-t17 element-set-from-x returns-2)
+    returns cast-x add-t17 mul-t18 element-set-from-x returns-2)

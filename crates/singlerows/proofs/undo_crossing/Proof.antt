@@ -16,6 +16,7 @@ use Rattle.factor.specs.LayoutInSheet.{row-wide}
 use Rattle.factor.specs.SumBounds.{Bounded, bounded-le, bounded-set, test-no, test-yes}
 use Rattle.factor.specs.UndoingOrder.{nthUndone, undoing-permutes}
 use Rattle.factor.specs.InPlace.{inPlace, length-in-place}
+use Rattle.factor.specs.Rounding.{ruleBy}
 use Rattle.joint.specs.Sums.{restSums, mostColumn, rest-sums-small}
 use Rattle.joint.specs.Elements.{signAt, diagonalOf, undoneOf, diagonal-small}
 use Rattle.joint.specs.RecoveredSums.{RecoveredSums, recovered-sums-start, recovered-sums-next, recovered-sums-small}
@@ -25,16 +26,16 @@ use Rattle.singlerows.proofs.undo_crossing.Statement.{statement}
 use Rattle.singlerows.proofs.undo_crossing.Tie as tie
 
 abbrev Inv-loop : tie.InvT-loop
-Inv-loop rule col fa row fb i x₀ n v₀ u₀ x v u =
+Inv-loop down even col fa row fb i x₀ n v₀ u₀ x v u =
     (u ≤ n)
-    × (x ≡ inPlace (undoneOf rule col fa row fb) (λ t. inRow n i (nthUndone (fb .kind) n (fb .row) t)) u x₀)
+    × (x ≡ inPlace (undoneOf (ruleBy down even) col fa row fb) (λ t. inRow n i (nthUndone (fb .kind) n (fb .row) t)) u x₀)
     × Bounded bound x
     × RecoveredSums col fa i fb u x v
     × Bounded mostColumn v
     × (length v ≡ 16)
 
 abbrev μ-loop : tie.MeasureT-loop
-μ-loop rule col fa row fb i x₀ n v₀ u₀ x v u = n - u
+μ-loop down even col fa row fb i x₀ n v₀ u₀ x v u = n - u
 
 rest-sums-at-requires : tie.Need-rest-sums-at-requires Inv-loop μ-loop
 rest-sums-at-requires c κs = let s = c .before .before in (s .pre .0, s .pre .2, s .pre .1 .order, s .pre .4, refl)
@@ -94,7 +95,7 @@ element-copy-out-undone-at c = let h = room (c .before .before) in omega arith
 abbrev F : tie.After-nth-undone Inv-loop μ-loop → ℤ
 F p =
     let s = p .before .before .before .before .before .before in
-    undoneOf (s .args .rule) (s .args .col .now) (s .args .fa) (s .args .row .now) (s .args .fb)
+    undoneOf (ruleBy (s .args .down) (s .args .even)) (s .args .col .now) (s .args .fa) (s .args .row .now) (s .args .fb)
     (p .before .before .loop .x) (P p)
 
 abbrev D : tie.After-nth-undone Inv-loop μ-loop → ℤ
@@ -123,8 +124,9 @@ value c =
     back w64 _ (c .undone-at .ok) ∙ c .undone-at .ensures
     ∙ rw (sign (c .before .before .before), reads w32 (old p) tt, p .nth-undone .ensures)
     (recovered-sums-undo (s .args .col .now) (s .args .fa) (s .args .i) (s .args .fb) (s .pre .3) (s .pre .1 .order) (s .pre .0)
-    (s .pre .2) (l .u) (p .before .loop-test .taken) (l .inv .3) (s .pre .1) (s .args .rule)
-    ∙ sym (undone-here (s .args .rule) (s .args .col .now) (s .args .fa) (s .args .row .now) (s .args .fb) (l .x) (s .args .i) j
+    (s .pre .2) (l .u) (p .before .loop-test .taken) (l .inv .3) (s .pre .1) (ruleBy (s .args .down) (s .args .even))
+    ∙ sym (undone-here (ruleBy (s .args .down) (s .args .even)) (s .args .col .now) (s .args .fa) (s .args .row .now)
+    (s .args .fb) (l .x) (s .args .i) j
     (rw (p .nth-undone .ensures) at (inside-order p))))
 
 is-within-requires : tie.Need-is-within-requires Inv-loop μ-loop

@@ -4,6 +4,7 @@ use lib.IntN.{_*ℤ_}
 use mir.Facts.{toZ-ofZ}
 use mir.Syntax.{w32, w64}
 use mir.Val.{toZ, ofZ}
+use Rattle.factor.specs.Rounding.{ruleBy}
 use Rattle.whole.specs.Stated.{Sign}
 use Rattle.whole.specs.Machine.{fits, back, within-sign, within--}
 use Rattle.rules.specs.Numbers.{unit, at}
@@ -27,7 +28,8 @@ rounded-beside-requires c κs = let s = c .before in rw (toZ-ofZ (s .fits .d)) (
 
 rounded : (c : tie.After-rounded-beside) → let s = c .before .before in
     toZ w64 (ofZ w64 (c .rounded-beside .result))
-    ≡ R (s .args .rule) unit (s .args .d *ℤ narrowSum (s .args .w .now) (s .args .x .now) (s .args .k) (s .args .n))
+    ≡ R (ruleBy (s .args .down) (s .args .even)) unit (s .args .d *ℤ narrowSum (s .args .w .now) (s .args .x .now) (s .args .k)
+    (s .args .n))
 rounded c =
     back w64 _ (c .rounded-beside .ok) ∙ c .rounded-beside .ensures ∙ rw (toZ-ofZ (c .before .before .fits .d))
 
@@ -36,7 +38,7 @@ undone-requires c κs =
     let s = c .before .before in
     let e = product s in
     let y = s .pre .3 in
-    let q = within-- y (rounded-sum-small (s .pre .1) (s .pre .0 .sign) (s .args .rule)) in
+    let q = within-- y (rounded-sum-small (s .pre .1) (s .pre .0 .sign) (ruleBy (s .args .down) (s .args .even))) in
     rw (rounded c, sign (c .before), toZ-ofZ (s .fits .y)) (e, fits y tt, fits q tt, fits (within-sign e q) tt)
 
 returns : tie.Need-returns

@@ -1,16 +1,13 @@
 -- The strip of this shape and task.
+use borrow.Author.Needs.{needs}
 use Rattle.factor.specs.Tasks.{callBy}
 use Rattle.striprun.specs.Plans.{planOf, TakesBlocks}
-use borrow.Author.Needs.{needs}
 use Rattle.strip.proofs.line_forward.Statement.{statement}
 use Rattle.strip.proofs.line_forward.Tie as tie
 
-nearest-requires : tie.Need-nearest-requires
-nearest-requires c κs = search needs
-
-run-strip-requires : tie.Need-run-strip-requires
+strip-by-requires : tie.Need-strip-by-requires
 unfolding TakesBlocks
-run-strip-requires c κs = rw (c .before .before .nearest .ensures) tt
+strip-by-requires c κs = tt
 
 same-length : tie.Need-same-length
 same-length c = search needs
@@ -20,9 +17,7 @@ same-length-2 c = search needs
 
 returns : tie.Need-returns
 unfolding planOf callBy
-returns c =
-    let r = c .before .before .before in
-    rw (r .before .before .before .nearest .ensures) at (r .run-strip .ensures)
+returns c = c .before .before .before .strip-by .ensures
 
 pub line-forward-spec : {M : Type 1} → statement M
-line-forward-spec = tie.close (tie.spec nearest-requires run-strip-requires same-length same-length-2 returns)
+line-forward-spec = tie.close (tie.spec strip-by-requires same-length same-length-2 returns)

@@ -1,10 +1,29 @@
--- The rule's share (`share-is`).
-use Rattle.factor.specs.Rounding.{share-is}
+-- Each arm is a line of `share`.
+use borrow.Author.Needs.{needs}
+use Rattle.rules.specs.Stages.{share}
 use Rattle.factor.proofs.rounding.share_of.Statement.{statement}
 use Rattle.factor.proofs.rounding.share_of.Tie as tie
 
+enum-told : tie.Need-enum-told
+enum-told c = search needs
+
 returns : tie.Need-returns
-returns c = rw (share-is (c .args .rule))
+unfolding share
+returns c = rw (c .enum-told .given .1)
+
+enum-told-2 : tie.Need-enum-told-2
+enum-told-2 c = search needs
+
+returns-2 : tie.Need-returns-2
+unfolding share
+returns-2 c = rw (c .enum-told2 .given .1)
+
+enum-told-3 : tie.Need-enum-told-3
+enum-told-3 c = search needs
+
+returns-3 : tie.Need-returns-3
+unfolding share
+returns-3 c = rw (c .enum-told3 .given .1)
 
 pub share-of-spec : {M : Type 1} → statement M
-share-of-spec = tie.close (tie.spec returns)
+share-of-spec = tie.close (tie.spec enum-told returns enum-told-2 returns-2 enum-told-3 returns-3)

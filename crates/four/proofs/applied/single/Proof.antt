@@ -2,6 +2,7 @@
 use mathlib.Core.Bool.{false}
 use mathlib.Core.Path.{_≡_}
 use native.Mathlib.Omega.{arith}
+use Rattle.factor.specs.Rounding.{ruleBy}
 use Rattle.four.specs.Turns.{signsBy, Became}
 use Rattle.four.specs.TurnLaws.{element-in, four-turns, then-turn}
 use Rattle.four.proofs.applied.single.Statement.{statement}
@@ -26,7 +27,7 @@ applied-at-requires-4 c κs =
 signed :
     (c : tie.After-applied-at4) →
     let s = c .before .before .before .before .args in
-    Became (c .applied-at4 .result) (signsBy (s .rule) (s .sheet .now) (s .p) false (s .x))
+    Became (c .applied-at4 .result) (signsBy (ruleBy (s .down) (s .even)) (s .sheet .now) (s .p) false (s .x))
 signed c =
     four-turns (c .before .before .before .before .pre .2) (c .before .before .before .applied-at .ensures)
     (c .before .before .applied-at2 .ensures) (c .before .applied-at3 .ensures) (c .applied-at4 .ensures)

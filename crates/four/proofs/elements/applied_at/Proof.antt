@@ -6,6 +6,7 @@ use lib.ListN.{set}
 use mir.Syntax.{w32, w64}
 use mir.Val.{toZ, ofZ}
 use Rattle.whole.specs.Machine.{fits, reads, back, within-+, sign-within, within-sign}
+use Rattle.factor.specs.Rounding.{ruleBy}
 use Rattle.four.specs.Turns.{elementBy}
 use Rattle.four.specs.TurnLaws.{rounded-sum-small, turned-as}
 use Rattle.four.proofs.elements.applied_at.Statement.{statement}
@@ -35,7 +36,7 @@ applied-requires c κs =
     let h = s .pre in
     let d = h .0 .sign in
     let x = h .1 .small (s .args .m) in
-    let q = rounded-sum-small (h .0) (h .1) (s .args .rule) in
+    let q = rounded-sum-small (h .0) (h .1) (ruleBy (s .args .down) (s .args .even)) in
     rw (c .before .before .rounded-sum .ensures, reads w64 q tt, reads w32 (sign-within d) tt, reads w32 x tt)
     (fits (sign-within d) tt, fits x tt, fits (within-sign d x) tt, fits (within-+ (within-sign d x) q) tt)
 
@@ -44,12 +45,13 @@ value :
     (c : tie.After-applied) →
     let a = c .before .before .before .before .before .args in
     toZ w64 (ofZ w64 (c .applied .result))
-    ≡ elementBy (a .rule) (a .sheet .now) (a .p) false (a .m) (a .a) (a .b) (a .c) (a .d) (a .t9) (a .v .block)
+    ≡ elementBy (ruleBy (a .down) (a .even)) (a .sheet .now) (a .p) false (a .m) (a .a) (a .b) (a .c) (a .d) (a .t10)
+    (a .v .block)
 unfolding elementBy
 value c =
     let s = c .before .before .before .before .before in
     let h = s .pre in
-    let q = rounded-sum-small (h .0) (h .1) (s .args .rule) in
+    let q = rounded-sum-small (h .0) (h .1) (ruleBy (s .args .down) (s .args .even)) in
     back w64 _ (c .applied .ok) ∙ c .applied .ensures
     ∙ rw (
       c .before .before .before .rounded-sum .ensures,

@@ -1,16 +1,18 @@
 -- The entries are read back from their bits; their sum is small.
 use borrow.Author.Needs.{needs}
+use native.Mathlib.Omega.{arith}
 use mathlib.Core.List.{List, [], _∷_}
 use mathlib.Core.Path.{_≡_, ap, _∙_}
 use Prim.Native.Nat.{_+_}
 use lib.IntN.{ℤ, _*ℤ_}
 use mir.Syntax.{w32, w64}
 use mir.Val.{toZ, ofZ}
-use Rattle.whole.specs.Machine.{fits, back, within-+, within-pos}
+use Rattle.whole.specs.Machine.{back, within-le}
 use Rattle.whole.specs.Stated.{sum}
 use Rattle.rules.specs.Numbers.{at}
+use Rattle.factor.specs.Rounding.{ruleBy}
 use Rattle.four.specs.Turns.{entryAt, rowSum}
-use Rattle.four.specs.TurnLaws.{terms-of-four, row-sum-small, rounded-sum-small}
+use Rattle.four.specs.TurnLaws.{terms-of-four, row-sum-small}
 use Rattle.four.proofs.elements.rounded_sum.Statement.{statement}
 use Rattle.four.proofs.elements.rounded_sum.Tie as tie
 
@@ -61,7 +63,8 @@ products-sum-requires c κs =
 value :
     (c : tie.After-products-sum) →
     let a = c .before .before .before .before .before .before .before .args in
-    toZ w64 (ofZ w64 (c .products-sum .result)) ≡ rowSum (a .rule) (a .sheet .now) (a .p) (a .a) (a .b) (a .c) (a .d) (a .x .now)
+    toZ w64 (ofZ w64 (c .products-sum .result))
+    ≡ rowSum (ruleBy (a .down) (a .even)) (a .sheet .now) (a .p) (a .a) (a .b) (a .c) (a .d) (a .x .now)
 unfolding rowSum sum
 value c =
     let e = c .before .before .before in
@@ -72,11 +75,7 @@ value c =
 round-line-requires : tie.Need-round-line-requires
 round-line-requires c κs =
     let s = c .before .before .before .before .before .before .before in
-    let rule = s .args .rule in
-    rw (value c) (
-      fits (within-+ (row-sum-small (s .pre .0) (s .pre .1) rule) (within-pos 2048)) tt,
-      fits (rounded-sum-small (s .pre .0) (s .pre .1) rule) tt,
-    )
+    rw (value c) (within-le (omega arith) (row-sum-small (s .pre .0) (s .pre .1) (ruleBy (s .args .down) (s .args .even))))
 
 returns : tie.Need-returns
 returns c = back w64 _ (c .round-line .ok) ∙ c .round-line .ensures .0 ∙ rw (value (c .before))

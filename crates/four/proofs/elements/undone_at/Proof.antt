@@ -10,6 +10,7 @@ use mir.Val.{toZ, ofZ}
 use Rattle.whole.specs.Machine.{fits, reads, back, within--, sign-within, within-sign}
 use Rattle.rules.specs.Numbers.{bound}
 use Rattle.rules.specs.Stages.{inside}
+use Rattle.factor.specs.Rounding.{ruleBy}
 use Rattle.four.specs.Turns.{elementBy}
 use Rattle.four.specs.TurnLaws.{rounded-sum-small, turned-as}
 use Rattle.four.proofs.elements.undone_at.Statement.{statement}
@@ -39,7 +40,7 @@ undone-requires c κs =
     let h = s .pre in
     let d = h .0 .sign in
     let x = h .1 .small (s .args .m) in
-    let q = rounded-sum-small (h .0) (h .2) (s .args .rule) in
+    let q = rounded-sum-small (h .0) (h .2) (ruleBy (s .args .down) (s .args .even)) in
     rw (c .before .before .rounded-sum .ensures, reads w64 q tt, reads w32 (sign-within d) tt, reads w32 x tt)
     (d, fits x tt, fits (within-- x q) tt, fits (within-sign d (within-- x q)) tt)
 
@@ -48,12 +49,13 @@ value :
     (c : tie.After-undone) →
     let a = c .before .before .before .before .before .before .args in
     toZ w64 (ofZ w64 (c .undone .result))
-    ≡ elementBy (a .rule) (a .sheet .now) (a .p) true (a .m) (a .a) (a .b) (a .c) (a .d) (a .t9) (a .v .block)
+    ≡ elementBy (ruleBy (a .down) (a .even)) (a .sheet .now) (a .p) true (a .m) (a .a) (a .b) (a .c) (a .d) (a .t10)
+    (a .v .block)
 unfolding elementBy
 value c =
     let s = c .before .before .before .before .before .before in
     let h = s .pre in
-    let q = rounded-sum-small (h .0) (h .2) (s .args .rule) in
+    let q = rounded-sum-small (h .0) (h .2) (ruleBy (s .args .down) (s .args .even)) in
     back w64 _ (c .undone .ok) ∙ c .undone .ensures
     ∙ rw (
       c .before .before .before .rounded-sum .ensures,

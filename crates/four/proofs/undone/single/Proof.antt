@@ -2,6 +2,7 @@
 use mathlib.Core.Bool.{true}
 use mathlib.Core.Path.{_≡_}
 use native.Mathlib.Omega.{arith}
+use Rattle.factor.specs.Rounding.{ruleBy}
 use Rattle.four.specs.Turns.{signsBy, Became}
 use Rattle.four.specs.TurnLaws.{element-in, four-turns, then-turn}
 use Rattle.four.proofs.undone.single.Statement.{statement}
@@ -26,7 +27,7 @@ undone-at-requires-4 c κs =
 signed :
     (c : tie.After-undone-at4) →
     let s = c .before .before .before .before .args in
-    Became (c .undone-at4 .result) (signsBy (s .rule) (s .sheet .now) (s .p) true (s .y))
+    Became (c .undone-at4 .result) (signsBy (ruleBy (s .down) (s .even)) (s .sheet .now) (s .p) true (s .y))
 signed c =
     four-turns (c .before .before .before .before .pre .2) (c .before .before .before .undone-at .ensures)
     (c .before .before .undone-at2 .ensures) (c .before .undone-at3 .ensures) (c .undone-at4 .ensures)

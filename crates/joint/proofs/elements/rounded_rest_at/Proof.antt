@@ -4,10 +4,9 @@ use native.Mathlib.Omega.{arith}
 use lib.IntN.{ℤ}
 use mir.Syntax.{w32, w64}
 use mir.Val.{toZ, ofZ}
-use Rattle.whole.specs.Machine.{fits, reads, back, within-le, within-+, within-pos}
-use Rattle.rules.specs.Numbers.{unit², at}
+use Rattle.whole.specs.Machine.{fits, reads, back, within-le}
+use Rattle.rules.specs.Numbers.{at}
 use Rattle.factor.specs.Layouts.{rowOf}
-use Rattle.factor.specs.Rounding.{rounded-within}
 use Rattle.joint.specs.Sums.{across}
 use Rattle.joint.specs.Elements.{signAt, diagonalOf, roundedRest, diagonal-small, band-at, rest-element-small}
 use borrow.Author.Needs.{needs}
@@ -65,7 +64,7 @@ round-joint-requires : tie.Need-round-joint-requires
 round-joint-requires c κs =
     let s = c .before .before .before .before .before in
     let t = rest-element-small (s .pre .0) (s .args .j) (s .pre .1) (s .pre .2) in
-    rw (value c) (fits (within-+ t (within-pos 8388608)) tt, fits (rounded-within (s .args .rule) unit² t) tt)
+    rw (value c) (within-le (omega arith) t)
 
 returns : tie.Need-returns
 unfolding roundedRest

@@ -7,6 +7,7 @@ use mir.Val.{toZ, ofZ}
 use Rattle.whole.specs.Machine.{fits, back, within--, sign-within, within-sign}
 use Rattle.whole.specs.Stated.{Sign}
 use Rattle.whole.specs.Laws.{signs-times}
+use Rattle.factor.specs.Rounding.{ruleBy}
 use Rattle.joint.specs.Elements.{signAt, roundedRest, undoneRest, rounded-rest-small}
 use borrow.Author.Needs.{needs}
 use Rattle.joint.proofs.elements.undone_at.Statement.{statement}
@@ -34,7 +35,8 @@ rounded-rest-at-requires : tie.Need-rounded-rest-at-requires
 rounded-rest-at-requires c κs = let s = c .before .before in (s .pre .0, s .pre .1, s .pre .3)
 
 told : (c : tie.After-rounded-rest-at) →
-    toZ w64 (ofZ w64 (c .rounded-rest-at .result)) ≡ roundedRest (c .before .before .before .args .rule)
+    toZ w64 (ofZ w64 (c .rounded-rest-at .result)) ≡ roundedRest (ruleBy (c .before .before .before .args .down)
+    (c .before .before .before .args .even))
     (c .before .before .before .args .row .now) (c .before .before .before .args .f) (c .before .before .before .args .j)
     (c .before .before .before .args .v .now)
 told c = back w64 _ (c .rounded-rest-at .ok) ∙ c .rounded-rest-at .ensures
@@ -44,7 +46,7 @@ undone-requires c κs =
     let s = c .before .before .before in
     let e = product s in
     let x = s .pre .4 in
-    let q = rounded-rest-small (s .pre .0) (s .args .j) (s .pre .1) (s .pre .3) (s .args .rule) in
+    let q = rounded-rest-small (s .pre .0) (s .args .j) (s .pre .1) (s .pre .3) (ruleBy (s .args .down) (s .args .even)) in
     rw (told c, signs (c .before), toZ-ofZ (s .fits .x))
     (e, fits x tt, fits (within-- x q) tt, fits (within-sign e (within-- x q)) tt)
 

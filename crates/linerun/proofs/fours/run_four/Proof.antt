@@ -20,6 +20,12 @@ is-four-requires c κs = search needs
 returns : tie.Need-returns
 returns c t = apart (sym t)
 
+is-even-requires : tie.Need-is-even-requires
+is-even-requires c κs = search needs
+
+returns-2 : tie.Need-returns-2
+returns-2 c t = apart (sym t)
+
 -- four numbers, and no allowances
 four : (c : tie.Else1) →
     let a = c .before .before .before .args in (count (a .sheet .now) 0 ≡ 4) × (a .run .task ≢ Allowance)
@@ -28,8 +34,9 @@ four c =
 
 load-four-requires : tie.Need-load-four-requires
 load-four-requires c κs =
-    let s = c .before .before .before in
-    s .pre .2 ∙ inputs-are (s .args .run .task) (count (s .args .sheet .now) 0) (four c .1) ∙ four c .0
+    let e = c .before .before in
+    let s = e .before .before .before in
+    s .pre .2 ∙ inputs-are (s .args .run .task) (count (s .args .sheet .now) 0) (four e .1) ∙ four e .0
 
 slice-aggregate-is-inside : tie.Need-slice-aggregate-is-inside
 slice-aggregate-is-inside c = search needs
@@ -37,20 +44,27 @@ slice-aggregate-is-inside c = search needs
 is-inside-requires : tie.Need-is-inside-requires
 is-inside-requires c κs = search needs
 
-returns-2 : tie.Need-returns-2
-returns-2 c t = apart (sym t)
+returns-3 : tie.Need-returns-3
+returns-3 c t = apart (sym t)
 
 run-stages-of-four-requires : tie.Need-run-stages-of-four-requires
 run-stages-of-four-requires c κs =
-    let e = c .before .before .before .before in
+    let v = c .before .before .before .before in
+    let e = v .before .before in
     let s = e .before .before .before in
-    let f = four e in
-    (s .pre .0, s .pre .1, f .0, f .1, inside-bounded bound _ (sym (c .before .is-inside .ensures) ∙ not-false _ (c .if2 .left)))
+    let f = four e in (
+      s .pre .0,
+      s .pre .1,
+      f .0,
+      f .1,
+      sym (v .before .is-even .ensures) ∙ v .if2 .left,
+      inside-bounded bound _ (sym (c .before .is-inside .ensures) ∙ not-false _ (c .if3 .left)),
+    )
 
-returns-3 : tie.Need-returns-3
-returns-3 c t =
+returns-4 : tie.Need-returns-4
+returns-4 c t =
     let l = c .before .before .before .before in
-    let e = l .before in
+    let e = l .before .before .before in
     let s = e .before .before .before in
     let f = four e in
     let a = s .args in (
@@ -62,5 +76,5 @@ returns-3 c t =
 pub run-four-spec : {M : Type 1} → statement M
 run-four-spec =
     tie.close
-    (tie.spec count-at-requires is-four-requires returns load-four-requires slice-aggregate-is-inside is-inside-requires returns-2
-    run-stages-of-four-requires returns-3)
+    (tie.spec count-at-requires is-four-requires returns is-even-requires returns-2 load-four-requires slice-aggregate-is-inside
+    is-inside-requires returns-3 run-stages-of-four-requires returns-4)

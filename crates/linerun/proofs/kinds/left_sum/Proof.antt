@@ -7,11 +7,10 @@ use lib.ListN.{length}
 use mir.Syntax.{w64}
 use mir.Val.{toZ, ofZ}
 use Rattle.whole.specs.Diff.{Within}
-use Rattle.whole.specs.Machine.{fits, back, within-+, within-pos}
-use Rattle.rules.specs.Numbers.{unit, mostAllowance, at}
+use Rattle.whole.specs.Machine.{back, within-le}
+use Rattle.rules.specs.Numbers.{mostAllowance, at}
 use Rattle.factor.specs.Layouts.{rowOf, along}
 use Rattle.factor.specs.SumBounds.{Bounded, bounded-le, left-terms, part-is}
-use Rattle.factor.specs.Rounding.{rounded-within}
 use Rattle.linerun.specs.Steps.{roundedSum}
 use Rattle.linerun.specs.LineBounds.{mostSum, row-of-16, row-small}
 use Rattle.linerun.specs.RowsByKind.{lower-left, lower-right, left-along}
@@ -65,7 +64,7 @@ small s = row-small (s .pre .0 .0) (s .args .m) (s .pre .0 .1) (bounded s)
 round-line-requires : tie.Need-round-line-requires
 round-line-requires c κs =
     let h = small (c .before .before .before) in
-    rw (value c) (fits (within-+ h (within-pos 2048)) tt, fits (rounded-within _ unit h) tt)
+    rw (value c) (within-le (omega arith) h)
 
 returns : tie.Need-returns
 unfolding roundedSum

@@ -10,9 +10,11 @@ use lib.ListN.{length}
 use mir.Syntax.{w64}
 use mir.Val.{toZ, ofZ}
 use Rattle.whole.specs.Machine.{back}
+use Rattle.rules.specs.declared.Rule.{Rule}
 use Rattle.rules.specs.Numbers.{at}
 use Rattle.rules.specs.Stages.{fill}
 use Rattle.rules.specs.Sheets.{triangle}
+use Rattle.factor.specs.Rounding.{ruleBy}
 use Rattle.linerun.specs.Steps.{roundedSum, appliedAt}
 use Rattle.linerun.specs.LineBounds.{rounded-sum-small}
 use Rattle.linerun.specs.Filling.{Filling, Filled, filled-next, filled-refused, filled-done, applied-fills}
@@ -21,21 +23,25 @@ use Rattle.linerun.proofs.kinds.lower.Statement.{statement}
 use Rattle.linerun.proofs.kinds.lower.Tie as tie
 
 abbrev Inv-loop : tie.InvT-loop
-Inv-loop rule sheet f x n y₀ p₀ m₀ y p m =
-    (m ≤ n) × (n ≡ f .order) × (p ≡ f .entries + triangle m) × Filled (λ k. fill k (appliedAt rule sheet f x) x) m y
+Inv-loop down even sheet f x n y₀ p₀ m₀ y p m =
+    (m ≤ n) × (n ≡ f .order) × (p ≡ f .entries + triangle m) × Filled (λ k. fill k (appliedAt (ruleBy down even) sheet f x) x) m y
 
 abbrev μ-loop : tie.MeasureT-loop
-μ-loop rule sheet f x n y₀ p₀ m₀ y p m = n - m
+μ-loop down even sheet f x n y₀ p₀ m₀ y p m = n - m
+
+-- the rule of the two tests
+abbrev K : tie.Start Inv-loop μ-loop → Rule
+K s = ruleBy (s .args .down) (s .args .even)
 
 -- what element k becomes
 abbrev F : tie.Start Inv-loop μ-loop → ℕ → ℤ
-F s = appliedAt (s .args .rule) (s .args .sheet .now) (s .args .f) (s .args .t4)
+F s = appliedAt (K s) (s .args .sheet .now) (s .args .f) (s .args .t5)
 
-len : (s : tie.Start Inv-loop μ-loop) → length (s .args .t4) ≡ 16
+len : (s : tie.Start Inv-loop μ-loop) → length (s .args .t5) ≡ 16
 len s = search needs
 
-fills : (s : tie.Start Inv-loop μ-loop) → Filling (s .args .f .order) (λ k. fill k (F s) (s .args .t4)) (λ k. k) (F s)
-fills s = applied-fills (s .args .rule) (s .pre .0) (s .args .t4) (len s)
+fills : (s : tie.Start Inv-loop μ-loop) → Filling (s .args .f .order) (λ k. fill k (F s) (s .args .t5)) (λ k. k) (F s)
+fills s = applied-fills (K s) (s .pre .0) (s .args .t5) (len s)
 
 loop-holds : tie.Need-loop-holds Inv-loop μ-loop
 unfolding fill triangle
@@ -57,7 +63,7 @@ sum :
     (c : tie.After-left-sum Inv-loop μ-loop) →
     let i = c .before .before in
     let s = i .before .before in
-    toZ w64 (ofZ w64 (c .left-sum .result)) ≡ roundedSum (s .args .rule) (s .args .sheet .now) (s .args .f) (s .args .t4)
+    toZ w64 (ofZ w64 (c .left-sum .result)) ≡ roundedSum (K s) (s .args .sheet .now) (s .args .f) (s .args .t5)
     (i .before .loop .m)
 sum c = back w64 _ (c .left-sum .ok) ∙ c .left-sum .ensures
 
@@ -66,7 +72,7 @@ apply-at-requires c κs =
     let i = c .before .before .before .before in
     let s = i .before .before in (
       (s .pre .0, turn i, s .pre .2),
-      rw (sum (c .before .before)) (rounded-sum-small (s .pre .0) (i .before .loop .m) (turn i) (s .args .rule) (s .pre .2)),
+      rw (sum (c .before .before)) (rounded-sum-small (s .pre .0) (i .before .loop .m) (turn i) (K s) (s .pre .2)),
     )
 
 -- what the element becomes
@@ -75,7 +81,7 @@ value :
     let l = c .before .before .before .before .before .before in
     let s = l .before in
     let q = c .before .before .before .left-sum .result in
-    (at (s .args .sheet .now) (s .args .f .signs + l .loop .m) *ℤ at (s .args .t4) (l .loop .m)) +ℤ toZ w64 (ofZ w64 q)
+    (at (s .args .sheet .now) (s .args .f .signs + l .loop .m) *ℤ at (s .args .t5) (l .loop .m)) +ℤ toZ w64 (ofZ w64 q)
     ≡ F s (l .loop .m)
 unfolding appliedAt
 value c = rw (sum (c .before .before .before))

@@ -11,10 +11,12 @@ use lib.ListN.{length}
 use mir.Syntax.{w64}
 use mir.Val.{toZ, ofZ}
 use Rattle.whole.specs.Machine.{back}
+use Rattle.rules.specs.declared.Rule.{Rule}
 use Rattle.rules.specs.Numbers.{at}
 use Rattle.rules.specs.Sheets.{triangle}
 use Rattle.factor.specs.InPlace.{inPlace}
 use Rattle.factor.specs.UndoingOrder.{nthUndone}
+use Rattle.factor.specs.Rounding.{ruleBy}
 use Rattle.linerun.specs.Steps.{roundedSum, undoneAt, undoneInPlace}
 use Rattle.linerun.specs.LineBounds.{rounded-sum-small}
 use Rattle.linerun.specs.Filling.{Filling, Filled, filled-next, filled-refused, filled-done, undone-fills}
@@ -23,28 +25,32 @@ use Rattle.linerun.proofs.kinds.lower_back.Statement.{statement}
 use Rattle.linerun.proofs.kinds.lower_back.Tie as tie
 
 abbrev Inv-loop : tie.InvT-loop
-Inv-loop rule sheet f n x₀ p₀ t₀ x p t =
-    (t ≤ n) × (n ≡ f .order) × (p ≡ f .entries + triangle t) × Filled (λ k. undoneInPlace rule sheet f k x₀) t x
+Inv-loop down even sheet f n x₀ p₀ t₀ x p t =
+    (t ≤ n) × (n ≡ f .order) × (p ≡ f .entries + triangle t) × Filled (λ k. undoneInPlace (ruleBy down even) sheet f k x₀) t x
 
 abbrev μ-loop : tie.MeasureT-loop
-μ-loop rule sheet f n x₀ p₀ t₀ x p t = n - t
+μ-loop down even sheet f n x₀ p₀ t₀ x p t = n - t
+
+-- the rule of the two tests
+abbrev K : tie.Start Inv-loop μ-loop → Rule
+K s = ruleBy (s .args .down) (s .args .even)
 
 -- the block after t turns, the element of turn t, and what it was
 abbrev W : tie.Start Inv-loop μ-loop → ℕ → List ℤ
-W s t = undoneInPlace (s .args .rule) (s .args .sheet .now) (s .args .f) t (s .args .y)
+W s t = undoneInPlace (K s) (s .args .sheet .now) (s .args .f) t (s .args .y)
 
 abbrev P : tie.Start Inv-loop μ-loop → ℕ → ℕ
 P s t = t
 
 abbrev F : tie.Start Inv-loop μ-loop → ℕ → ℤ
-F s t = undoneAt (s .args .rule) (s .args .sheet .now) (s .args .f) (W s t) (P s t)
+F s t = undoneAt (K s) (s .args .sheet .now) (s .args .f) (W s t) (P s t)
 
 len : (s : tie.Start Inv-loop μ-loop) → length (s .args .y) ≡ 16
 len s = search needs
 
 fills : (s : tie.Start Inv-loop μ-loop) → Filling (s .args .f .order) (W s) (P s) (F s)
 unfolding nthUndone
-fills s = undone-fills (s .args .rule) (s .pre .0) (s .args .y) (len s) (s .pre .2) (P s) (λ t l. rw (s .pre .1))
+fills s = undone-fills (K s) (s .pre .0) (s .args .y) (len s) (s .pre .2) (P s) (λ t l. rw (s .pre .1))
 
 loop-holds : tie.Need-loop-holds Inv-loop μ-loop
 unfolding inPlace triangle
@@ -70,7 +76,7 @@ sum :
     (c : tie.After-left-sum Inv-loop μ-loop) →
     let l = c .before .before .before in
     let s = l .before in
-    toZ w64 (ofZ w64 (c .left-sum .result)) ≡ roundedSum (s .args .rule) (s .args .sheet .now) (s .args .f) (l .loop .x)
+    toZ w64 (ofZ w64 (c .left-sum .result)) ≡ roundedSum (K s) (s .args .sheet .now) (s .args .f) (l .loop .x)
     (l .loop .t)
 sum c = back w64 _ (c .left-sum .ok) ∙ c .left-sum .ensures
 
@@ -80,7 +86,7 @@ undo-at-requires c κs =
     let l = i .before in
     let s = l .before in (
       (s .pre .0, turn i, l .loop .inv .3 .small),
-      rw (sum (c .before)) (rounded-sum-small (s .pre .0) (l .loop .t) (turn i) (s .args .rule) (l .loop .inv .3 .small)),
+      rw (sum (c .before)) (rounded-sum-small (s .pre .0) (l .loop .t) (turn i) (K s) (l .loop .inv .3 .small)),
     )
 
 -- what the element was

@@ -10,9 +10,11 @@ use lib.ListN.{length}
 use mir.Syntax.{w64}
 use mir.Val.{toZ, ofZ}
 use Rattle.whole.specs.Machine.{back}
+use Rattle.rules.specs.declared.Rule.{Rule}
 use Rattle.rules.specs.Numbers.{at}
 use Rattle.factor.specs.InPlace.{inPlace}
 use Rattle.factor.specs.UndoingOrder.{nthUndone}
+use Rattle.factor.specs.Rounding.{ruleBy}
 use Rattle.linerun.specs.Steps.{roundedSum, undoneAt, undoneInPlace}
 use Rattle.linerun.specs.LineBounds.{rounded-sum-small}
 use Rattle.linerun.specs.Filling.{Filling, Filled, filled-next, filled-refused, filled-done, undone-fills}
@@ -20,28 +22,32 @@ use Rattle.linerun.proofs.kinds.single_back.Statement.{statement}
 use Rattle.linerun.proofs.kinds.single_back.Tie as tie
 
 abbrev Inv-loop : tie.InvT-loop
-Inv-loop rule sheet f n x₀ t₀ x t =
-    (t ≤ n) × (n ≡ f .order) × Filled (λ k. undoneInPlace rule sheet f k x₀) t x
+Inv-loop down even sheet f n x₀ t₀ x t =
+    (t ≤ n) × (n ≡ f .order) × Filled (λ k. undoneInPlace (ruleBy down even) sheet f k x₀) t x
 
 abbrev μ-loop : tie.MeasureT-loop
-μ-loop rule sheet f n x₀ t₀ x t = n - t
+μ-loop down even sheet f n x₀ t₀ x t = n - t
+
+-- the rule of the two tests
+abbrev K : tie.Start Inv-loop μ-loop → Rule
+K s = ruleBy (s .args .down) (s .args .even)
 
 -- the block after t turns, the element of turn t, and what it was
 abbrev W : tie.Start Inv-loop μ-loop → ℕ → List ℤ
-W s t = undoneInPlace (s .args .rule) (s .args .sheet .now) (s .args .f) t (s .args .y)
+W s t = undoneInPlace (K s) (s .args .sheet .now) (s .args .f) t (s .args .y)
 
 abbrev P : tie.Start Inv-loop μ-loop → ℕ → ℕ
 P s t = nthUndone (s .args .f .kind) (s .args .f .order) (s .args .f .row) t
 
 abbrev F : tie.Start Inv-loop μ-loop → ℕ → ℤ
-F s t = undoneAt (s .args .rule) (s .args .sheet .now) (s .args .f) (W s t) (P s t)
+F s t = undoneAt (K s) (s .args .sheet .now) (s .args .f) (W s t) (P s t)
 
 len : (s : tie.Start Inv-loop μ-loop) → length (s .args .y) ≡ 16
 len s = search needs
 
 fills : (s : tie.Start Inv-loop μ-loop) → Filling (s .args .f .order) (W s) (P s) (F s)
 unfolding nthUndone
-fills s = undone-fills (s .args .rule) (s .pre .0) (s .args .y) (len s) (s .pre .2) (P s) (λ t l. refl)
+fills s = undone-fills (K s) (s .pre .0) (s .args .y) (len s) (s .pre .2) (P s) (λ t l. refl)
 
 loop-holds : tie.Need-loop-holds Inv-loop μ-loop
 unfolding inPlace
@@ -73,7 +79,7 @@ sum :
     let i0 = c .before .before in
     let l = c .before .before .before .before in
     let s = l .before in
-    toZ w64 (ofZ w64 (c .single-sum .result)) ≡ roundedSum (s .args .rule) (s .args .sheet .now) (s .args .f) (l .loop .x)
+    toZ w64 (ofZ w64 (c .single-sum .result)) ≡ roundedSum (K s) (s .args .sheet .now) (s .args .f) (l .loop .x)
     (i0 .nth-undone .result)
 sum c = back w64 _ (c .single-sum .ok) ∙ c .single-sum .ensures
 
@@ -84,7 +90,7 @@ undo-at-requires c κs =
     let l = i .before in
     let s = l .before in (
       (s .pre .0, (small-place i0), l .loop .inv .2 .small),
-      rw (sum (c .before)) (rounded-sum-small (s .pre .0) (i0 .nth-undone .result) (small-place i0) (s .args .rule)
+      rw (sum (c .before)) (rounded-sum-small (s .pre .0) (i0 .nth-undone .result) (small-place i0) (K s)
           (l .loop .inv .2 .small)),
     )
 

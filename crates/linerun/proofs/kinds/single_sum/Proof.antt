@@ -4,11 +4,11 @@ use native.Mathlib.Omega.{arith}
 use mir.Syntax.{w64}
 use mir.Val.{toZ, ofZ}
 use Rattle.whole.specs.Diff.{Within}
-use Rattle.whole.specs.Machine.{fits, back, within-+, within-pos}
-use Rattle.rules.specs.Numbers.{unit, at}
+use Rattle.whole.specs.Machine.{back, within-le}
+use Rattle.rules.specs.Numbers.{at}
 use Rattle.factor.specs.Layouts.{rowOf, along}
 use Rattle.factor.specs.SumBounds.{bounded-le}
-use Rattle.factor.specs.Rounding.{rounded-within}
+use Rattle.factor.specs.Rounding.{ruleBy}
 use Rattle.linerun.specs.Steps.{roundedSum}
 use Rattle.linerun.specs.LineBounds.{mostSum, row-of-16, row-small}
 use Rattle.linerun.specs.RowsByKind.{single-none}
@@ -18,8 +18,8 @@ use Rattle.linerun.proofs.kinds.single_sum.Tie as tie
 returns : tie.Need-returns
 returns c =
     let s = c .before .before in
-    sym (single-none (s .args .rule) (s .args .sheet .now) (s .args .f) (s .args .x .now) (s .args .m) (s .pre .1)
-    (c .if1 .taken))
+    sym (single-none (ruleBy (s .args .down) (s .args .even)) (s .args .sheet .now) (s .args .f) (s .args .x .now) (s .args .m)
+    (s .pre .1) (c .if1 .taken))
 
 -- what the code asks of the row
 row-of-requires : tie.Need-row-of-requires
@@ -53,7 +53,7 @@ small c = let h = c .before .before .before .before .pre .0 in row-small (h .0) 
 
 round-line-requires : tie.Need-round-line-requires
 round-line-requires c κs =
-    rw (value c) (fits (within-+ (small c) (within-pos 2048)) tt, fits (rounded-within _ unit (small c)) tt)
+    rw (value c) (within-le (omega arith) (small c))
 
 returns-2 : tie.Need-returns-2
 unfolding roundedSum

@@ -10,11 +10,13 @@ use lib.ListN.{length}
 use mir.Syntax.{w64}
 use mir.Val.{toZ, ofZ}
 use Rattle.whole.specs.Machine.{back}
+use Rattle.rules.specs.declared.Rule.{Rule}
 use Rattle.rules.specs.Numbers.{at}
 use Rattle.rules.specs.Sheets.{triangle}
 use Rattle.rules.specs.Factors.{above}
 use Rattle.factor.specs.InPlace.{inPlace}
 use Rattle.factor.specs.UndoingOrder.{nthUndone}
+use Rattle.factor.specs.Rounding.{ruleBy}
 use Rattle.linerun.specs.Steps.{roundedSum, undoneAt, undoneInPlace}
 use Rattle.linerun.specs.LineBounds.{rounded-sum-small}
 use Rattle.linerun.specs.Filling.{Filling, Filled, filled-next, filled-refused, filled-done, undone-fills}
@@ -23,30 +25,35 @@ use Rattle.linerun.proofs.kinds.upper_back.Statement.{statement}
 use Rattle.linerun.proofs.kinds.upper_back.Tie as tie
 
 abbrev Inv-loop : tie.InvT-loop
-Inv-loop rule sheet f n x₀ p₀ t₀ x p t =
-    (t ≤ n) × (n ≡ f .order) × (p ≡ f .entries + above (f .order) (f .order - t)) × Filled (λ k. undoneInPlace rule sheet f k x₀)
+Inv-loop down even sheet f n x₀ p₀ t₀ x p t =
+    (t ≤ n) × (n ≡ f .order) × (p ≡ f .entries + above (f .order) (f .order - t))
+    × Filled (λ k. undoneInPlace (ruleBy down even) sheet f k x₀)
     t
     x
 
 abbrev μ-loop : tie.MeasureT-loop
-μ-loop rule sheet f n x₀ p₀ t₀ x p t = n - t
+μ-loop down even sheet f n x₀ p₀ t₀ x p t = n - t
+
+-- the rule of the two tests
+abbrev K : tie.Start Inv-loop μ-loop → Rule
+K s = ruleBy (s .args .down) (s .args .even)
 
 -- the block after t turns, the element of turn t, and what it was
 abbrev W : tie.Start Inv-loop μ-loop → ℕ → List ℤ
-W s t = undoneInPlace (s .args .rule) (s .args .sheet .now) (s .args .f) t (s .args .y)
+W s t = undoneInPlace (K s) (s .args .sheet .now) (s .args .f) t (s .args .y)
 
 abbrev P : tie.Start Inv-loop μ-loop → ℕ → ℕ
 P s t = s .args .f .order - 1 - t
 
 abbrev F : tie.Start Inv-loop μ-loop → ℕ → ℤ
-F s t = undoneAt (s .args .rule) (s .args .sheet .now) (s .args .f) (W s t) (P s t)
+F s t = undoneAt (K s) (s .args .sheet .now) (s .args .f) (W s t) (P s t)
 
 len : (s : tie.Start Inv-loop μ-loop) → length (s .args .y) ≡ 16
 len s = search needs
 
 fills : (s : tie.Start Inv-loop μ-loop) → Filling (s .args .f .order) (W s) (P s) (F s)
 unfolding nthUndone
-fills s = undone-fills (s .args .rule) (s .pre .0) (s .args .y) (len s) (s .pre .2) (P s) (λ t l. rw (s .pre .1) (omega arith))
+fills s = undone-fills (K s) (s .pre .0) (s .args .y) (len s) (s .pre .2) (P s) (λ t l. rw (s .pre .1) (omega arith))
 
 before-lower-requires : tie.Need-before-lower-requires Inv-loop μ-loop
 before-lower-requires c κs = c .pre .0 .order
@@ -118,7 +125,7 @@ sum :
     (c : tie.After-right-sum Inv-loop μ-loop) →
     let l = c .before .before .before in
     let s = l .before .before .before in
-    toZ w64 (ofZ w64 (c .right-sum .result)) ≡ roundedSum (s .args .rule) (s .args .sheet .now) (s .args .f) (l .loop .x)
+    toZ w64 (ofZ w64 (c .right-sum .result)) ≡ roundedSum (K s) (s .args .sheet .now) (s .args .f) (l .loop .x)
     (s .args .f .order - 1 - l .loop .t)
 sum c = back w64 _ (c .right-sum .ok) ∙ c .right-sum .ensures
 
@@ -129,7 +136,7 @@ undo-at-requires c κs =
     let s = l .before .before .before in (
       (s .pre .0, (let t = turn i in omega arith), l .loop .inv .3 .small),
       rw (sum (c .before)) (rounded-sum-small (s .pre .0) (s .args .f .order - 1 - l .loop .t) (let t = turn i in omega arith)
-          (s .args .rule) (l .loop .inv .3 .small)),
+          (K s) (l .loop .inv .3 .small)),
     )
 
 -- what the element was

@@ -9,6 +9,7 @@ use Rattle.rules.specs.Numbers.{count}
 use Rattle.rules.specs.Sheets.{kindOf}
 use Rattle.factor.specs.Tasks.{limitOf, isInverse, stageBy}
 use Rattle.factor.specs.Layouts.{layoutBy, layoutAt}
+use Rattle.factor.specs.Rounding.{by-tests}
 use Rattle.factor.specs.Steps.{step-moves}
 use Rattle.factor.specs.MovedInPlace.{front-moved, moved-bounded}
 use Rattle.factor.specs.LayoutInSheet.{in-sheet, moves, kind-yes, kind-no, row-inside}
@@ -58,6 +59,12 @@ returns c =
     (moves-are _ _ _ _ (yes-kind k) (s .args .run .task) _)
     (moved-bounded (isInverse (s .args .run .task)) (s .args .n) _ (s .pre .3))
 
+is-down-requires : tie.Need-is-down-requires
+is-down-requires c κs = search needs
+
+is-even-requires : tie.Need-is-even-requires
+is-even-requires c κs = search needs
+
 -- a factor with weights, as each task asks for it
 enum-told : tie.Need-enum-told
 enum-told c = search needs
@@ -65,7 +72,7 @@ enum-told c = search needs
 apply-weights-requires : tie.Need-apply-weights-requires
 unfolding limitOf layoutAt layoutBy
 apply-weights-requires c κs =
-    let e = c .before .before in
+    let e = c .before .before .before .before in
     let s = e .before .before .before in
     rw (e .before .before .layout-at .ensures) (
       in-sheet (s .pre .1) (s .pre .2) (no-kind e),
@@ -77,12 +84,19 @@ apply-weights-requires c κs =
 returns-2 : tie.Need-returns-2
 unfolding layoutAt layoutBy limitOf stageBy
 returns-2 c =
-    let e = c .before .before .before in
+    let v = c .before .before .before in
+    let e = v .before .before in
     let a = e .before .before in
     let s = a .before in
     rw (c .before .enum-told .given .1)
-    (rw (a .layout-at .ensures, apply-is (s .args .run .rule) _ _ _ (s .pre .2) (no-kind e) (s .args .t5)) at
-    (c .apply-weights .ensures))
+    (rw (
+      a .layout-at .ensures,
+      v .before .is-down .ensures,
+      v .is-even .ensures,
+      by-tests (s .args .run .rule),
+      apply-is (s .args .run .rule) _ _ _ (s .pre .2) (no-kind e) (s .args .t5),
+    )
+    at (c .apply-weights .ensures))
 
 enum-told-2 : tie.Need-enum-told-2
 enum-told-2 c = search needs
@@ -90,7 +104,7 @@ enum-told-2 c = search needs
 undo-weights-requires : tie.Need-undo-weights-requires
 unfolding limitOf layoutAt layoutBy
 undo-weights-requires c κs =
-    let e = c .before .before in
+    let e = c .before .before .before .before in
     let s = e .before .before .before in
     rw (e .before .before .layout-at .ensures) (
       in-sheet (s .pre .1) (s .pre .2) (no-kind e),
@@ -103,12 +117,16 @@ undo-weights-requires c κs =
 returns-3 : tie.Need-returns-3
 unfolding layoutAt layoutBy limitOf stageBy
 returns-3 c =
-    let e = c .before .before .before in
+    let v = c .before .before .before in
+    let e = v .before .before in
     let a = e .before .before in
     let s = a .before in
     rw (c .before .enum-told2 .given .1)
     (rw (
       a .layout-at .ensures,
+      v .before .is-down .ensures,
+      v .is-even .ensures,
+      by-tests (s .args .run .rule),
       undo-is (s .args .run .rule) _ _ _ (s .pre .2) (no-kind e) (s .args .t5)
           (let o = s .pre .1 in omega (arith, len s)) (row-inside (s .pre .0) (s .pre .2)),
     )
@@ -120,7 +138,7 @@ enum-told-3 c = search needs
 allow-weights-requires : tie.Need-allow-weights-requires
 unfolding limitOf
 allow-weights-requires c κs =
-    let e = c .before .before in
+    let e = c .before .before .before .before in
     let s = e .before .before .before in
     rw (e .before .before .layout-at .ensures) (
       in-sheet (s .pre .1) (s .pre .2) (no-kind e),
@@ -131,7 +149,8 @@ allow-weights-requires c κs =
 returns-4 : tie.Need-returns-4
 unfolding layoutAt layoutBy limitOf stageBy
 returns-4 c =
-    let e = c .before .before .before in
+    let v = c .before .before .before in
+    let e = v .before .before in
     let a = e .before .before in
     let s = a .before in
     rw (c .before .enum-told3 .given .1)
@@ -141,5 +160,6 @@ returns-4 c =
 pub run-stage-spec : {M : Type 1} → statement M
 run-stage-spec =
     tie.close
-    (tie.spec layout-at-requires is-move-requires slice-aggregate-move-from move-from-requires returns enum-told
-    apply-weights-requires returns-2 enum-told-2 undo-weights-requires returns-3 enum-told-3 allow-weights-requires returns-4)
+    (tie.spec layout-at-requires is-move-requires slice-aggregate-move-from move-from-requires returns is-down-requires
+    is-even-requires enum-told apply-weights-requires returns-2 enum-told-2 undo-weights-requires returns-3 enum-told-3
+    allow-weights-requires returns-4)

@@ -13,7 +13,7 @@ use Rattle.rules.specs.Numbers.{unit}
 use Rattle.rules.specs.Stages.{ceiling, share}
 use Rattle.factor.specs.Layouts.{rowOf, along}
 use Rattle.factor.specs.Magnitudes.{magnitudeAt, whole, row-entries, magnitudes-small}
-use Rattle.factor.specs.Rounding.{share-is}
+use Rattle.factor.specs.Rounding.{share-most}
 use Rattle.linerun.specs.Steps.{allowedAt}
 use Rattle.linerun.specs.LineBounds.{mostSum, row-of-16}
 use borrow.Author.Needs.{needs}
@@ -66,9 +66,9 @@ quotient-small : (s : tie.Start) → Within (mostSum + (unit - 1)) (Q s)
 unfolding ceiling
 quotient-small s = within-shr unit (within-+ (small s) (within-pos (unit - 1)))
 
-share-small : (rule : Rule) (b : Bool) → Within 2048 (cond b (pos 0) (pos (share rule)))
+share-small : (rule : Rule) (b : Bool) → Within 4096 (cond b (pos 0) (pos (share rule)))
 share-small rule true = within-le (omega arith) (within-pos 0)
-share-small rule false = rw (share-is rule) (within-pos 2048)
+share-small rule false = within-le (share-most rule) (within-pos (share rule))
 
 quotient : (c : tie.After-raise-line) → toZ w64 (ofZ w64 (c .raise-line .result)) ≡ Q (c .before .before .before .before .before)
 quotient c = back w64 _ (c .raise-line .ok) ∙ c .raise-line .ensures ∙ rw (magnitudes (c .before))
@@ -91,7 +91,7 @@ raised-requires : tie.Need-raised-requires
 raised-requires c κs =
     let s = c .before .before .before .before .before .before in
     let b = s .pre .2 .small (s .args .m) in
-    let h : Within 2048 (H s) = share-small (s .args .rule) (W s) in
+    let h : Within 4096 (H s) = share-small (s .args .rule) (W s) in
     rw (quotient (c .before), added c, reads w32 b tt)
     (fits b tt, fits (within-+ b (quotient-small s)) tt, fits (within-+ (within-+ b (quotient-small s)) h) tt)
 

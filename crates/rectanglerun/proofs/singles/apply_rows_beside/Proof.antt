@@ -7,6 +7,7 @@ use Prim.Native.Nat.{_-_, _≤_}
 use native.Mathlib.Omega.{arith}
 use Rattle.factor.specs.declared.run.Task.the-variants.{Forward}
 use Rattle.factor.specs.Tasks.{limitOf}
+use Rattle.factor.specs.Rounding.{ruleBy}
 use Rattle.joint.specs.RowsInPlace.{elementOf, rowOrder}
 use Rattle.singlerows.specs.SingleRowsInPlace.{early-undone}
 use Rattle.rectanglerun.specs.RowsInTurn.{Weighable, TurnsDone, turn-below, still, asks, no-turns, turns-more, turns-stop}
@@ -15,11 +16,11 @@ use Rattle.rectanglerun.proofs.singles.apply_rows_beside.Statement.{sta
 use Rattle.rectanglerun.proofs.singles.apply_rows_beside.Tie as tie
 
 abbrev Inv-loop : tie.InvT-loop
-Inv-loop rule col fa row fb n g w x₀ m s₀ x s =
-    (1 ≤ s) × (s ≤ m) × Weighable Forward col fa row fb x × TurnsDone Forward rule col fa row fb 1 s x₀ true x
+Inv-loop down even col fa row fb n g w x₀ m s₀ x s =
+    (1 ≤ s) × (s ≤ m) × Weighable Forward col fa row fb x × TurnsDone Forward (ruleBy down even) col fa row fb 1 s x₀ true x
 
 abbrev μ-loop : tie.MeasureT-loop
-μ-loop rule col fa row fb n g w x₀ m s₀ x s = m - s
+μ-loop down even col fa row fb n g w x₀ m s₀ x s = m - s
 
 loop-holds : tie.Need-loop-holds Inv-loop μ-loop
 loop-holds c = (omega arith, (let l = c .pre .0 .low1 in omega arith), c .pre .0, no-turns)

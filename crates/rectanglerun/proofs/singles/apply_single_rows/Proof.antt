@@ -5,6 +5,7 @@ use Prim.Native.Nat.{_<_}
 use native.Mathlib.Omega.{arith}
 use Rattle.factor.specs.declared.run.Task.the-variants.{Forward}
 use Rattle.factor.specs.Tasks.{limitOf}
+use Rattle.factor.specs.Rounding.{ruleBy}
 use Rattle.joint.specs.RowsInPlace.{elementOf, rowOrder}
 use Rattle.singlerows.specs.SingleRows.{one-row}
 use Rattle.rectanglerun.specs.RowsInTurn.{Rows, no-rows, still, row-more, row-stops, turns-last}
@@ -41,8 +42,9 @@ returns c =
 first : (c : tie.Else1) →
     let r = c .before .before in
     let s = r .before .before .before .before in
-    Rows Forward (s .args .rule) (s .args .col .now) (s .args .fa) (s .args .row .now) (s .args .fb) (s .args .x .now) 1
-    (r .apply-crossing .last .1 .1 .1 .1 .1 .1 .0)
+    Rows Forward (ruleBy (s .args .down) (s .args .even)) (s .args .col .now) (s .args .fa) (s .args .row .now) (s .args .fb)
+    (s .args .x .now) 1
+    (r .apply-crossing .last .1 .1 .1 .1 .1 .1 .1 .0)
 unfolding limitOf elementOf rowOrder
 first c =
     let r = c .before .before in

@@ -7,6 +7,7 @@ use Prim.Native.Nat.{_-_, _≤_, _<_}
 use native.Mathlib.Omega.{arith}
 use Rattle.factor.specs.declared.run.Task.the-variants.{Inverse}
 use Rattle.factor.specs.Tasks.{limitOf}
+use Rattle.factor.specs.Rounding.{ruleBy}
 use Rattle.joint.specs.RowsInPlace.{elementOf, rowOrder}
 use Rattle.singlerows.specs.SingleRowsInPlace.{early-undone}
 use Rattle.rectanglerun.specs.RowsInTurn.{Weighable, TurnsDone, turn-below, still, asks, no-turns, turns-more, turns-stop}
@@ -15,11 +16,11 @@ use Rattle.rectanglerun.proofs.singles.undo_rows_beside.Statement.{stat
 use Rattle.rectanglerun.proofs.singles.undo_rows_beside.Tie as tie
 
 abbrev Inv-loop : tie.InvT-loop
-Inv-loop rule col fa row fb n g w x₀ m s₀ s-end x s =
-    (s ≤ s-end) × Weighable Inverse col fa row fb x × TurnsDone Inverse rule col fa row fb 0 s x₀ true x
+Inv-loop down even col fa row fb n g w x₀ m s₀ s-end x s =
+    (s ≤ s-end) × Weighable Inverse col fa row fb x × TurnsDone Inverse (ruleBy down even) col fa row fb 0 s x₀ true x
 
 abbrev μ-loop : tie.MeasureT-loop
-μ-loop rule col fa row fb n g w x₀ m s₀ s-end x s = s-end - s
+μ-loop down even col fa row fb n g w x₀ m s₀ s-end x s = s-end - s
 
 sub-s-end : tie.Need-sub-s-end Inv-loop μ-loop
 sub-s-end c = let l = c .pre .0 .low1 in omega arith

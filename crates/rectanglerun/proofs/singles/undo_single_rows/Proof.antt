@@ -5,6 +5,7 @@ use Prim.Native.Nat.{_-_}
 use native.Mathlib.Omega.{arith}
 use Rattle.factor.specs.declared.run.Task.the-variants.{Inverse}
 use Rattle.factor.specs.Tasks.{limitOf}
+use Rattle.factor.specs.Rounding.{ruleBy}
 use Rattle.joint.specs.RowsInPlace.{elementOf, rowOrder}
 use Rattle.rectanglerun.specs.RowsInTurn.{Rows, no-rows, row-last}
 use Rattle.rectanglerun.specs.UndoingOrder.{last-row-undone}
@@ -32,8 +33,9 @@ returns c =
 others : (c : tie.Else1) →
     let r = c .before .before in
     let s = r .before .before .before .before .before .before in
-    Rows Inverse (s .args .rule) (s .args .col .now) (s .args .fa) (s .args .row .now) (s .args .fb) (s .args .x .now)
-    (s .args .fa .order - 1) (r .undo-all-beside .last .1 .1 .1 .1 .1 .1 .1 .0)
+    Rows Inverse (ruleBy (s .args .down) (s .args .even)) (s .args .col .now) (s .args .fa) (s .args .row .now) (s .args .fb)
+    (s .args .x .now)
+    (s .args .fa .order - 1) (r .undo-all-beside .last .1 .1 .1 .1 .1 .1 .1 .1 .0)
 others c =
     let r = c .before .before in
     let h = r .before .before .before .before .before .before .pre .0 in

@@ -2,7 +2,7 @@
 use borrow.Author.Needs.{needs}
 use mathlib.Core.Bool.{Bool, false}
 use mathlib.Core.List.{List}
-use mathlib.Core.Path.{_≡_, sym, ap, _∙_}
+use mathlib.Core.Path.{_≡_, sym, ap, ap₂, subst, _∙_}
 use Prim.Native.Nat.{_*_}
 use lib.IntN.{ℤ}
 use lib.ListN.{length}
@@ -18,6 +18,7 @@ use Rattle.factor.specs.Layouts.{layoutBy, layoutAt, isMove}
 use Rattle.factor.specs.Steps.{Step, step-moves}
 use Rattle.factor.specs.MovedInPlace.{moved-bounded, moved-scattered, length-scattered}
 use Rattle.factor.specs.LayoutInSheet.{moves, move-no, kind-yes}
+use Rattle.factor.specs.Rounding.{ruleBy, by-tests}
 use Rattle.rectanglerun.specs.RowsInTurn.{Weighable, Weighed}
 use Rattle.rectanglerun.specs.StagesAgree.{moves-are, stage-asks, stage-weighed}
 use Rattle.rectanglerun.proofs.stages.run_stage.Statement.{statement}
@@ -61,7 +62,10 @@ returns c =
     )
 
 -- ---- a pair of factors with weights: what its rows ask, and that they are the stage
-module _ (e : tie.Else1) where
+module _ (w : tie.After-is-even) where
+  abbrev e : tie.Else1
+  e = w .before .before
+
   abbrev l : tie.After-layout-at2
   l = e .before .before
 
@@ -94,6 +98,25 @@ module _ (e : tie.Else1) where
         stage-weighed (s .pre .0) (l .before .layout-at .ensures) (l .layout-at2 .ensures) weighs (s .args .run) t (s .pre .1)
         (s .pre .2) w
 
+    -- the same of rows that take the rule by its two tests
+    told-by : {ok : Bool} {y : List ℤ} →
+        Weighed task (ruleBy (w .before .is-down .result) (w .is-even .result)) (s .args .col .now) fa (s .args .row .now) fb
+        (s .args .x .now) ok y →
+        Step (limitOf (s .args .run .task)) (s .args .n1 * s .args .n2)
+        (takenBy (s .args .run) (s .args .n1 * s .args .n2)
+        (jointStage (s .args .n1) (s .args .n2) (factorAt (s .args .col .now) (s .args .n1) (s .args .i))
+        (factorAt (s .args .row .now) (s .args .n2) (s .args .j))) (s .args .x .now)) ok y
+        × (length y ≡ mostCells)
+    told-by {ok} {y} v =
+        let e = ap₂ ruleBy (w .before .is-down .ensures) (w .is-even .ensures) ∙ by-tests (s .args .run .rule) in
+        told (subst (λ r. Weighed task r (s .args .col .now) fa (s .args .row .now) fb (s .args .x .now) ok y) e v)
+
+is-down-requires : tie.Need-is-down-requires
+is-down-requires c κs = search needs
+
+is-even-requires : tie.Need-is-even-requires
+is-even-requires c κs = search needs
+
 enum-told : tie.Need-enum-told
 enum-told c = search needs
 
@@ -105,7 +128,8 @@ apply-lower-rows-requires c κs =
     let k = c .before in let t = k .before .before in (asks (t .before .before) (t .enum-told .given .1), k .enum-told2 .given .1)
 
 returns-2 : tie.Need-returns-2
-returns-2 c = let t = c .before .before .before .before in told (t .before .before) (t .enum-told .given .1) (c .apply-lower-rows .ensures)
+returns-2 c = let t = c .before .before .before .before in
+    told-by (t .before .before) (t .enum-told .given .1) (c .apply-lower-rows .ensures)
 
 enum-told-3 : tie.Need-enum-told-3
 enum-told-3 c = search needs
@@ -115,7 +139,8 @@ apply-upper-rows-requires c κs =
     let k = c .before in let t = k .before .before in (asks (t .before .before) (t .enum-told .given .1), k .enum-told3 .given .1)
 
 returns-3 : tie.Need-returns-3
-returns-3 c = let t = c .before .before .before .before in told (t .before .before) (t .enum-told .given .1) (c .apply-upper-rows .ensures)
+returns-3 c = let t = c .before .before .before .before in
+    told-by (t .before .before) (t .enum-told .given .1) (c .apply-upper-rows .ensures)
 
 enum-told-4 : tie.Need-enum-told-4
 enum-told-4 c = search needs
@@ -125,7 +150,8 @@ apply-single-rows-requires c κs =
     let k = c .before in let t = k .before .before in (asks (t .before .before) (t .enum-told .given .1), k .enum-told4 .given .1)
 
 returns-4 : tie.Need-returns-4
-returns-4 c = let t = c .before .before .before .before in told (t .before .before) (t .enum-told .given .1) (c .apply-single-rows .ensures)
+returns-4 c = let t = c .before .before .before .before in
+    told-by (t .before .before) (t .enum-told .given .1) (c .apply-single-rows .ensures)
 
 enum-told-5 : tie.Need-enum-told-5
 enum-told-5 c = search needs
@@ -141,30 +167,45 @@ enum-told-7 c = search needs
 
 undo-lower-rows-requires : tie.Need-undo-lower-rows-requires
 undo-lower-rows-requires c κs =
-    let k = c .before in let t = k .before .before in (asks (t .before .before) (t .enum-told6 .given .1), k .enum-told7 .given .1)
+    let k = c .before in let t = k .before .before in (
+      asks (t .before .before)
+          (t .enum-told6 .given .1),
+      k .enum-told7 .given .1,
+    )
 
 returns-6 : tie.Need-returns-6
-returns-6 c = let t = c .before .before .before .before in told (t .before .before) (t .enum-told6 .given .1) (c .undo-lower-rows .ensures)
+returns-6 c = let t = c .before .before .before .before in
+    told-by (t .before .before) (t .enum-told6 .given .1) (c .undo-lower-rows .ensures)
 
 enum-told-8 : tie.Need-enum-told-8
 enum-told-8 c = search needs
 
 undo-upper-rows-requires : tie.Need-undo-upper-rows-requires
 undo-upper-rows-requires c κs =
-    let k = c .before in let t = k .before .before in (asks (t .before .before) (t .enum-told6 .given .1), k .enum-told8 .given .1)
+    let k = c .before in let t = k .before .before in (
+      asks (t .before .before)
+          (t .enum-told6 .given .1),
+      k .enum-told8 .given .1,
+    )
 
 returns-7 : tie.Need-returns-7
-returns-7 c = let t = c .before .before .before .before in told (t .before .before) (t .enum-told6 .given .1) (c .undo-upper-rows .ensures)
+returns-7 c = let t = c .before .before .before .before in
+    told-by (t .before .before) (t .enum-told6 .given .1) (c .undo-upper-rows .ensures)
 
 enum-told-9 : tie.Need-enum-told-9
 enum-told-9 c = search needs
 
 undo-single-rows-requires : tie.Need-undo-single-rows-requires
 undo-single-rows-requires c κs =
-    let k = c .before in let t = k .before .before in (asks (t .before .before) (t .enum-told6 .given .1), k .enum-told9 .given .1)
+    let k = c .before in let t = k .before .before in (
+      asks (t .before .before)
+          (t .enum-told6 .given .1),
+      k .enum-told9 .given .1,
+    )
 
 returns-8 : tie.Need-returns-8
-returns-8 c = let t = c .before .before .before .before in told (t .before .before) (t .enum-told6 .given .1) (c .undo-single-rows .ensures)
+returns-8 c = let t = c .before .before .before .before in
+    told-by (t .before .before) (t .enum-told6 .given .1) (c .undo-single-rows .ensures)
 
 enum-told-10 : tie.Need-enum-told-10
 enum-told-10 c = search needs
@@ -184,7 +225,8 @@ returns-10 c = let t = c .before .before in told (t .before .before) (t .enum-to
 pub run-stage-spec : {M : Type 1} → statement M
 run-stage-spec =
     tie.close
-    (tie.spec layout-at-requires layout-at-requires-2 is-move-requires move-pair-requires returns enum-told enum-told-2
+    (tie.spec layout-at-requires layout-at-requires-2 is-move-requires move-pair-requires returns is-down-requires
+    is-even-requires enum-told enum-told-2
     apply-lower-rows-requires returns-2 enum-told-3 apply-upper-rows-requires returns-3 enum-told-4 apply-single-rows-requires
     returns-4 enum-told-5 returns-5 enum-told-6 enum-told-7 undo-lower-rows-requires returns-6 enum-told-8
     undo-upper-rows-requires returns-7 enum-told-9 undo-single-rows-requires returns-8 enum-told-10 returns-9 enum-told-11

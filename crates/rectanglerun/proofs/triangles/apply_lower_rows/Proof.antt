@@ -5,6 +5,7 @@ use native.Mathlib.Omega.{arith}
 use mathlib.Core.Path.{_≡_, refl, _∙_}
 use Rattle.factor.specs.declared.run.Task.the-variants.{Forward}
 use Rattle.factor.specs.Tasks.{limitOf}
+use Rattle.factor.specs.Rounding.{ruleBy}
 use Rattle.joint.specs.RowsInPlace.{elementOf, rowOrder}
 use Rattle.rectanglerun.specs.RowsInTurn.{Rows, no-rows, row-asks, row-more, row-stops, rows-all}
 use Rattle.rectanglerun.specs.UndoingOrder.{nthRow, lower-applied}
@@ -12,10 +13,10 @@ use Rattle.rectanglerun.proofs.triangles.apply_lower_rows.Statement.{st
 use Rattle.rectanglerun.proofs.triangles.apply_lower_rows.Tie as tie
 
 abbrev Inv-loop : tie.InvT-loop
-Inv-loop rule col fa row fb x₀ m s₀ x s = (s ≤ m) × Rows Forward rule col fa row fb x₀ s x
+Inv-loop down even col fa row fb x₀ m s₀ x s = (s ≤ m) × Rows Forward (ruleBy down even) col fa row fb x₀ s x
 
 abbrev μ-loop : tie.MeasureT-loop
-μ-loop rule col fa row fb x₀ m s₀ x s = m - s
+μ-loop down even col fa row fb x₀ m s₀ x s = m - s
 
 loop-holds : tie.Need-loop-holds Inv-loop μ-loop
 loop-holds c = (omega arith, no-rows (c .pre .0))

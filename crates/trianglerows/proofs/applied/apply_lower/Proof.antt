@@ -15,6 +15,7 @@ use Rattle.rules.specs.Numbers.{bound, at}
 use Rattle.factor.specs.Layouts.{rowOf}
 use Rattle.factor.specs.SumBounds.{Bounded, bounded-set, test-no, test-yes}
 use Rattle.factor.specs.InPlace.{inPlace, length-in-place}
+use Rattle.factor.specs.Rounding.{ruleBy}
 use Rattle.joint.specs.Elements.{signAt, rest-element-small}
 use Rattle.joint.specs.RowsInPlace.{onward, run-next, run-stops}
 use Rattle.joint.specs.Triangles.{totalOf, appliedIn, lower-at, lower-left, lower-next, applied-from, applied-in}
@@ -22,14 +23,14 @@ use Rattle.trianglerows.proofs.applied.apply_lower.Statement.{statement
 use Rattle.trianglerows.proofs.applied.apply_lower.Tie as tie
 
 abbrev Inv-loop : tie.InvT-loop
-Inv-loop rule row f d v k from to x₀ entries p₀ j₀ x p j =
+Inv-loop down even row f d v k from to x₀ entries p₀ j₀ x p j =
     (from ≤ j) × (j ≤ to)
-    × (x ≡ inPlace (appliedIn rule row f (toZ w32 d) v k) (onward (λ u. k + u) from) (j - from) x₀)
+    × (x ≡ inPlace (appliedIn (ruleBy down even) row f (toZ w32 d) v k) (onward (λ u. k + u) from) (j - from) x₀)
     × Bounded bound x
     × (p ≡ rowOf f j .at)
 
 abbrev μ-loop : tie.MeasureT-loop
-μ-loop rule row f d v k from to x₀ entries p₀ j₀ x p j = to - j
+μ-loop down even row f d v k from to x₀ entries p₀ j₀ x p j = to - j
 
 -- what the run was lent
 abbrev S : tie.In-loop Inv-loop μ-loop → tie.Start Inv-loop μ-loop
@@ -114,7 +115,7 @@ applied-whole-requires c κs =
 abbrev F : tie.In-loop Inv-loop μ-loop → ℤ
 F c =
     let a = S c .args in
-    appliedIn (a .rule) (a .row .now) (a .f) (toZ w32 (ofZ w32 (a .d))) (a .v .now) (a .k) (c .before .loop .x)
+    appliedIn (ruleBy (a .down) (a .even)) (a .row .now) (a .f) (toZ w32 (ofZ w32 (a .d))) (a .v .now) (a .k) (c .before .loop .x)
     (a .k + c .before .loop .j)
 
 value : (c : tie.After-applied-whole Inv-loop μ-loop) →
@@ -125,8 +126,10 @@ value c =
     let l = i .before .loop in
     back w64 _ (c .applied-whole .ok) ∙ c .applied-whole .ensures
     ∙ rw (total (c .before .before .before), sign (c .before .before), number i)
-    (applied-from (a .rule) (a .row .now) (a .f) (l .j) (toZ w32 (ofZ w32 (a .d))) (a .v .now) (at (l .x) (a .k + l .j))
-    ∙ sym (applied-in (a .rule) (a .row .now) (a .f) (toZ w32 (ofZ w32 (a .d))) (a .v .now) (a .k) (l .j) (l .x)))
+    (applied-from (ruleBy (a .down) (a .even)) (a .row .now) (a .f) (l .j) (toZ w32 (ofZ w32 (a .d))) (a .v .now) (at (l .x)
+    (a .k + l .j))
+    ∙ sym (applied-in (ruleBy (a .down) (a .even)) (a .row .now) (a .f) (toZ w32 (ofZ w32 (a .d))) (a .v .now) (a .k) (l .j)
+    (l .x)))
 
 is-within-requires : tie.Need-is-within-requires Inv-loop μ-loop
 is-within-requires c κs = tt
@@ -152,11 +155,11 @@ held c = test-yes bound (value (c .before .before)) (c .before .is-within .ensur
 cast-x : tie.Need-cast-x Inv-loop μ-loop
 cast-x c = rw (value (c .before .before)) (fits (held c) tt)
 
-add-t18 : tie.Need-add-t18 Inv-loop μ-loop
-add-t18 c = let h = room (c.before.before.before.before.before.before) in omega arith
+add-t19 : tie.Need-add-t19 Inv-loop μ-loop
+add-t19 c = let h = room (c.before.before.before.before.before.before) in omega arith
 
-mul-t19 : tie.Need-mul-t19 Inv-loop μ-loop
-mul-t19 c = let h = room (c.before.before.before.before.before.before) in omega arith
+mul-t20 : tie.Need-mul-t20 Inv-loop μ-loop
+mul-t20 c = let h = room (c.before.before.before.before.before.before) in omega arith
 
 element-set-from-x : tie.Need-element-set-from-x Inv-loop μ-loop
 element-set-from-x c = room (c.before.before.before.before.before.before)
@@ -220,8 +223,8 @@ apply-lower-spec =
     is-within-requires
     returns
     cast-x
-    add-t18
-    mul-t19
+    add-t19
+    mul-t20
     element-set-from-x
     add-p-2
     add-j

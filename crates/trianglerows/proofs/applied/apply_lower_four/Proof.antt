@@ -1,9 +1,11 @@
 -- The sums are the row's, so the one run of four elements is the row (`asks-run`, `run-row`).
 use borrow.Author.Needs.{needs}
+use mathlib.Core.Bool.{true, false}
 use mathlib.Core.Path.{_≡_, sym, _∙_}
 use native.Mathlib.Omega.{arith}
 use mir.Syntax.{w32}
 use mir.Val.{toZ, ofZ}
+use Rattle.factor.specs.Rounding.{ruleBy}
 use Rattle.whole.specs.Machine.{back}
 use Rattle.joint.specs.Elements.{signAt}
 use Rattle.joint.specs.RowsInPlace.{run-all}
@@ -25,11 +27,13 @@ lower-sums-requires c κs =
     (asks-sums (s .pre .0) (sym (s .pre .2)), s .pre .0 .alike ∙ s .pre .1)
 
 mul-apply-lower : tie.Need-mul-apply-lower
-mul-apply-lower c = let s = c .before .before .before .before .before in omega (arith, asks-room (s .pre .0) (sym (s .pre .2)))
+mul-apply-lower c =
+    let s = c .before .before .before .before .before .before in
+    omega (arith, asks-room (s .pre .0) (sym (s .pre .2)))
 
 apply-lower-requires : tie.Need-apply-lower-requires
 apply-lower-requires c κs =
-    let a = c .before .before in
+    let a = c .before .before .before in
     let d = a .before .before .before in
     let s = d .before in (
       asks-run (s .pre .0) (sym (s .pre .2)) (sign d) (a .lower-sums .ensures),
@@ -40,11 +44,41 @@ apply-lower-requires c κs =
 
 returns : tie.Need-returns
 returns c =
-    let a = c .before .before .before in
+    let t = c .before .before .before in
+    let a = t .before in
     let d = a .before .before .before in
     let s = d .before in
-    run-row (s .pre .0) (sym (s .pre .2)) (sign d) (a .lower-sums .ensures) (s .args .rule)
-    (run-all _ 4 (s .pre .2) (c .apply-lower .ensures))
+    rw (t .if1 .taken)
+    (run-row (s .pre .0) (sym (s .pre .2)) (sign d) (a .lower-sums .ensures) (ruleBy (s .args .down) true)
+    (run-all _ 4 (s .pre .2) (c .apply-lower .ensures)))
+
+mul-apply-lower-2 : tie.Need-mul-apply-lower-2
+mul-apply-lower-2 c =
+    let s = c .before .before .before .before .before .before in
+    omega (arith, asks-room (s .pre .0) (sym (s .pre .2)))
+
+apply-lower-requires-2 : tie.Need-apply-lower-requires-2
+apply-lower-requires-2 c κs =
+    let a = c .before .before .before in
+    let d = a .before .before .before in
+    let s = d .before in (
+      asks-run (s .pre .0) (sym (s .pre .2)) (sign d) (a .lower-sums .ensures),
+      s .pre .1,
+      omega arith,
+      omega (arith, s .pre .2),
+    )
+
+returns-2 : tie.Need-returns-2
+returns-2 c =
+    let t = c .before .before .before in
+    let a = t .before in
+    let d = a .before .before .before in
+    let s = d .before in
+    rw (t .if1 .left)
+    (run-row (s .pre .0) (sym (s .pre .2)) (sign d) (a .lower-sums .ensures) (ruleBy (s .args .down) false)
+    (run-all _ 4 (s .pre .2) (c .apply-lower2 .ensures)))
 
 pub apply-lower-four-spec : {M : Type 1} → statement M
-apply-lower-four-spec = tie.close (tie.spec sign-at-requires lower-sums-requires mul-apply-lower apply-lower-requires returns)
+apply-lower-four-spec = tie.close
+    (tie.spec sign-at-requires lower-sums-requires mul-apply-lower apply-lower-requires returns mul-apply-lower-2
+    apply-lower-requires-2 returns-2)

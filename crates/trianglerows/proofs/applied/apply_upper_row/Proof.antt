@@ -4,6 +4,7 @@ use mathlib.Core.Path.{_≡_, refl, _∙_}
 use native.Mathlib.Omega.{arith}
 use mir.Syntax.{w32}
 use mir.Val.{toZ, ofZ}
+use Rattle.factor.specs.Rounding.{ruleBy}
 use Rattle.whole.specs.Machine.{back}
 use Rattle.joint.specs.Elements.{signAt}
 use Rattle.joint.specs.Triangles.{asks-room, asks-sums, asks-run, run-row}
@@ -46,7 +47,8 @@ returns-2 c =
     let a = c .before .before .before in
     let d = a .before .before .before in
     let s = d .before .before in
-    run-row (s .pre .0) refl (sign d) (a .upper-sums .ensures) (s .args .rule) (c .apply-upper-elements .ensures)
+    run-row (s .pre .0) refl (sign d) (a .upper-sums .ensures) (ruleBy (s .args .down) (s .args .even))
+    (c .apply-upper-elements .ensures)
 
 pub apply-upper-row-spec : {M : Type 1} → statement M
 apply-upper-row-spec =

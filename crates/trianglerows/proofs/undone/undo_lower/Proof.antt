@@ -13,6 +13,7 @@ use Rattle.rules.specs.Laws.Lists.{set-at}
 use Rattle.factor.specs.Layouts.{rowOf}
 use Rattle.factor.specs.SumBounds.{test-no, test-yes}
 use Rattle.factor.specs.UndoingOrder.{nthUndone}
+use Rattle.factor.specs.Rounding.{ruleBy}
 use Rattle.joint.specs.Elements.{signAt, diagonalOf, undoneOf, rest-element-small}
 use Rattle.joint.specs.RowsInPlace.{in-block}
 use Rattle.joint.specs.Triangles.{totalOf, lower-at, lower-left, lower-next}
@@ -29,14 +30,14 @@ use Rattle.trianglerows.proofs.undone.undo_lower.Statement.{statement}
 use Rattle.trianglerows.proofs.undone.undo_lower.Tie as tie
 
 abbrev Inv-loop : tie.InvT-loop
-Inv-loop rule col fa row fb i from to v₀ x₀ n entries k p₀ last₀ j₀ v x p last j =
+Inv-loop down even col fa row fb i from to v₀ x₀ n entries k p₀ last₀ j₀ v x p last j =
     (j ≤ to)
-    × Undoing rule col fa row fb i from j x₀ x v
+    × Undoing (ruleBy down even) col fa row fb i from j x₀ x v
     × (p ≡ rowOf fb j .at)
     × (toZ w64 last ≡ recentOf v (λ t. t) j)
 
 abbrev μ-loop : tie.MeasureT-loop
-μ-loop rule col fa row fb i from to v₀ x₀ n entries k p₀ last₀ j₀ v x p last j = to - j
+μ-loop down even col fa row fb i from to v₀ x₀ n entries k p₀ last₀ j₀ v x p last j = to - j
 
 -- what the run was lent
 abbrev S : tie.In-loop Inv-loop μ-loop → tie.Start Inv-loop μ-loop
@@ -146,7 +147,8 @@ undone-whole-requires c κs =
 -- what it was
 abbrev F : tie.In-loop Inv-loop μ-loop → ℤ
 F c =
-    let a = S c .args in undoneOf (a .rule) (a .col .now) (a .fa) (a .row .now) (a .fb) (c .before .loop .x) (P c)
+    let a = S c .args in undoneOf (ruleBy (a .down) (a .even)) (a .col .now) (a .fa) (a .row .now) (a .fb) (c .before .loop .x)
+    (P c)
 
 -- its turn
 turn : (c : tie.In-loop Inv-loop μ-loop) →
@@ -182,11 +184,11 @@ held c = test-yes bound (value (c .before .before)) (c .before .is-within .ensur
 cast-x : tie.Need-cast-x Inv-loop μ-loop
 cast-x c = rw (value (c .before .before)) (fits (held c) tt)
 
-add-t25 : tie.Need-add-t25 Inv-loop μ-loop
-add-t25 c = let h = room (c .before .before .before .before .before .before .before .before) in omega arith
+add-t26 : tie.Need-add-t26 Inv-loop μ-loop
+add-t26 c = let h = room (c .before .before .before .before .before .before .before .before) in omega arith
 
-mul-t26 : tie.Need-mul-t26 Inv-loop μ-loop
-mul-t26 c = let h = room (c .before .before .before .before .before .before .before .before) in omega arith
+mul-t27 : tie.Need-mul-t27 Inv-loop μ-loop
+mul-t27 c = let h = room (c .before .before .before .before .before .before .before .before) in omega arith
 
 element-set-from-x : tie.Need-element-set-from-x Inv-loop μ-loop
 element-set-from-x c = room (c .before .before .before .before .before .before .before .before)
@@ -294,8 +296,8 @@ undo-lower-spec =
     is-within-requires
     returns
     cast-x
-    add-t25
-    mul-t26
+    add-t26
+    mul-t27
     element-set-from-x
     mul-with-diagonal
     element-copy-out-with-diagonal

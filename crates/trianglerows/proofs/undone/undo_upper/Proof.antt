@@ -15,6 +15,7 @@ use Rattle.rules.specs.Factors.{above}
 use Rattle.factor.specs.Layouts.{rowOf}
 use Rattle.factor.specs.SumBounds.{test-no, test-yes}
 use Rattle.factor.specs.UndoingOrder.{nthUndone}
+use Rattle.factor.specs.Rounding.{ruleBy}
 use Rattle.joint.specs.Elements.{signAt, diagonalOf, undoneOf, rest-element-small}
 use Rattle.joint.specs.RowsInPlace.{in-block}
 use Rattle.joint.specs.Triangles.{totalOf, upper-at, upper-left, upper-right}
@@ -31,14 +32,14 @@ use Rattle.trianglerows.proofs.undone.undo_upper.Statement.{statement}
 use Rattle.trianglerows.proofs.undone.undo_upper.Tie as tie
 
 abbrev Inv-loop : tie.InvT-loop
-Inv-loop rule col fa row fb n i from to v₀ x₀ wide entries k p₀ last₀ t₀ v x p last t =
+Inv-loop down even col fa row fb n i from to v₀ x₀ wide entries k p₀ last₀ t₀ v x p last t =
     (t ≤ to)
-    × Undoing rule col fa row fb i from t x₀ x v
+    × Undoing (ruleBy down even) col fa row fb i from t x₀ x v
     × (p ≡ fb .entries + above (fb .order) (fb .order - t))
     × (toZ w64 last ≡ recentOf v (λ u. n - suc u) t)
 
 abbrev μ-loop : tie.MeasureT-loop
-μ-loop rule col fa row fb n i from to v₀ x₀ wide entries k p₀ last₀ t₀ v x p last t = to - t
+μ-loop down even col fa row fb n i from to v₀ x₀ wide entries k p₀ last₀ t₀ v x p last t = to - t
 
 -- what the run was lent
 abbrev S : tie.In-loop Inv-loop μ-loop → tie.Start Inv-loop μ-loop
@@ -213,7 +214,8 @@ undone-whole-requires c κs =
 -- what it was
 abbrev F : tie.In-loop Inv-loop μ-loop → ℤ
 F c =
-    let a = S c .args in undoneOf (a .rule) (a .col .now) (a .fa) (a .row .now) (a .fb) (c .before .loop .x) (P c)
+    let a = S c .args in undoneOf (ruleBy (a .down) (a .even)) (a .col .now) (a .fa) (a .row .now) (a .fb) (c .before .loop .x)
+    (P c)
 
 -- its turn
 turn : (c : tie.In-loop Inv-loop μ-loop) →
@@ -250,11 +252,11 @@ held c = test-yes bound (value (c .before .before)) (c .before .is-within .ensur
 cast-x : tie.Need-cast-x Inv-loop μ-loop
 cast-x c = rw (value (c .before .before)) (fits (held c) tt)
 
-add-t28 : tie.Need-add-t28 Inv-loop μ-loop
-add-t28 c = let h = room (c .before .before .before .before .before .before .before .before) in omega arith
+add-t29 : tie.Need-add-t29 Inv-loop μ-loop
+add-t29 c = let h = room (c .before .before .before .before .before .before .before .before) in omega arith
 
-mul-t31 : tie.Need-mul-t31 Inv-loop μ-loop
-mul-t31 c = let h = room (c .before .before .before .before .before .before .before .before) in omega arith
+mul-t32 : tie.Need-mul-t32 Inv-loop μ-loop
+mul-t32 c = let h = room (c .before .before .before .before .before .before .before .before) in omega arith
 
 element-set-from-x : tie.Need-element-set-from-x Inv-loop μ-loop
 element-set-from-x c = room (c .before .before .before .before .before .before .before .before)
@@ -373,8 +375,8 @@ undo-upper-spec =
     is-within-requires
     returns
     cast-x
-    add-t28
-    mul-t31
+    add-t29
+    mul-t32
     element-set-from-x
     mul-with-diagonal
     element-copy-out-with-diagonal

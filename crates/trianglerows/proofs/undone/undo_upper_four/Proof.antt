@@ -13,7 +13,7 @@ upper-rest-sums-requires c κs =
 
 undo-upper-requires : tie.Need-undo-upper-requires
 undo-upper-requires c κs =
-    let a = c .before .before in
+    let a = c .before .before .before in
     let s = a .before .before .before in (
       undo-start (s .pre .0) (sym (s .pre .2)) (a .upper-rest-sums .ensures),
       s .pre .1,
@@ -24,10 +24,30 @@ undo-upper-requires c κs =
 
 returns : tie.Need-returns
 returns c =
-    let a = c .before .before .before in
+    let t = c .before .before .before in
+    let a = t .before in
     let s = a .before .before .before in
     let none = undone-none (undo-start (s .pre .0) (sym (s .pre .2)) (a .upper-rest-sums .ensures)) in
-    undone-all 0 4 none (c .undo-upper .ensures) (omega arith) (s .pre .2)
+    rw (t .if1 .taken) (undone-all 0 4 none (c .undo-upper .ensures) (omega arith) (s .pre .2))
+
+undo-upper-requires-2 : tie.Need-undo-upper-requires-2
+undo-upper-requires-2 c κs =
+    let a = c .before .before .before in
+    let s = a .before .before .before in (
+      undo-start (s .pre .0) (sym (s .pre .2)) (a .upper-rest-sums .ensures),
+      s .pre .1,
+      omega arith,
+      omega (arith, s .pre .2),
+      sym (s .pre .2),
+    )
+
+returns-2 : tie.Need-returns-2
+returns-2 c =
+    let t = c .before .before .before in
+    let a = t .before in
+    let s = a .before .before .before in
+    let none = undone-none (undo-start (s .pre .0) (sym (s .pre .2)) (a .upper-rest-sums .ensures)) in
+    rw (t .if1 .left) (undone-all 0 4 none (c .undo-upper2 .ensures) (omega arith) (s .pre .2))
 
 pub undo-upper-four-spec : {M : Type 1} → statement M
-undo-upper-four-spec = tie.close (tie.spec upper-rest-sums-requires undo-upper-requires returns)
+undo-upper-four-spec = tie.close (tie.spec upper-rest-sums-requires undo-upper-requires returns undo-upper-requires-2 returns-2)

@@ -1,0 +1,29 @@
+-- Each arm is a line of `isDown`.
+use borrow.Author.Needs.{needs}
+use Rattle.factor.specs.Rounding.{isDown}
+use Rattle.factor.proofs.run.is_down.Statement.{statement}
+use Rattle.factor.proofs.run.is_down.Tie as tie
+
+enum-told : tie.Need-enum-told
+enum-told c = search needs
+
+returns : tie.Need-returns
+unfolding isDown
+returns c = rw (c .enum-told .given .1)
+
+enum-told-2 : tie.Need-enum-told-2
+enum-told-2 c = search needs
+
+returns-2 : tie.Need-returns-2
+unfolding isDown
+returns-2 c = rw (c .enum-told2 .given .1)
+
+enum-told-3 : tie.Need-enum-told-3
+enum-told-3 c = search needs
+
+returns-3 : tie.Need-returns-3
+unfolding isDown
+returns-3 c = rw (c .enum-told3 .given .1)
+
+pub is-down-spec : {M : Type 1} → statement M
+is-down-spec = tie.close (tie.spec enum-told returns enum-told-2 returns-2 enum-told-3 returns-3)

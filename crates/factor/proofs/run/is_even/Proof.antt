@@ -1,0 +1,29 @@
+-- Each arm is a line of `toEvens`.
+use borrow.Author.Needs.{needs}
+use Rattle.factor.specs.Rounding.{toEvens}
+use Rattle.factor.proofs.run.is_even.Statement.{statement}
+use Rattle.factor.proofs.run.is_even.Tie as tie
+
+enum-told : tie.Need-enum-told
+enum-told c = search needs
+
+returns : tie.Need-returns
+unfolding toEvens
+returns c = rw (c .enum-told .given .1)
+
+enum-told-2 : tie.Need-enum-told-2
+enum-told-2 c = search needs
+
+returns-2 : tie.Need-returns-2
+unfolding toEvens
+returns-2 c = rw (c .enum-told2 .given .1)
+
+enum-told-3 : tie.Need-enum-told-3
+enum-told-3 c = search needs
+
+returns-3 : tie.Need-returns-3
+unfolding toEvens
+returns-3 c = rw (c .enum-told3 .given .1)
+
+pub is-even-spec : {M : Type 1} → statement M
+is-even-spec = tie.close (tie.spec enum-told returns enum-told-2 returns-2 enum-told-3 returns-3)
