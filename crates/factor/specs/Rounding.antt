@@ -3,7 +3,7 @@
 use mathlib.Core.Bool.{Bool, true, false}
 use mathlib.Core.Logic.{inl, inr}
 use mathlib.Core.Path.{_≡_, refl, sym, ap, _∙_}
-use Prim.Native.Nat.{ℕ, _+_, _*_, _-_, _/_, _%_, _≤_, _<_}
+use Prim.Native.Nat.{ℕ, _+_, _*_, _-_, _^_, _/_, _%_, _≤_, _<_}
 use native.Mathlib.Decide.{decLt}
 use native.Mathlib.Nat.{mod-lt}
 use native.Mathlib.Omega.{arith}
@@ -51,9 +51,12 @@ liftBy down true half q = (half - 1) + natAbs q % 2
 liftBy true false half q = 0
 liftBy false false half q = half
 
--- room for half a scale more, in 64 bits
+-- what is rounded leaves room for two scales in 64 bits, and the floor of it has 40
 abbrev pub mostRoundable : ℕ
-mostRoundable = 9223372036821221376
+mostRoundable = 2 ^ 63 - 2 * unit²
+
+abbrev pub mostFloor : ℕ
+mostFloor = 2 ^ 39 - 1
 
 -- k more S in the sum is k more in what it is rounded to
 past-lo : (S : ℕ) (r t k : ℤ) → (pos S *ℤ r) ≤ℤ t → (pos S *ℤ (r -ℤ k)) ≤ℤ (t -ℤ (pos S *ℤ k))
@@ -188,14 +191,12 @@ rounded-within {M} {s} rule S h two w = rw (by-tests rule) at (by (isDown rule) 
     by down even =
         let a = liftBy down even (S / 2) (shrZ s S) in
         rw (← (rounds-as S s h two down even))
-        (within-le (omega (arith, lift-most down even (S / 2) (shrZ s S) (omega (arith, h, two)))) (within-shr S (within-+ w
-        (within-pos a))))
+        (within-le (omega (arith, lift-most down even (S / 2) (shrZ s S) (omega (arith, h, two))))
+        (within-shr S (within-+ w (within-pos a))))
 
--- the floor of a sum in 64 bits has 40
-pub shr-small : {s : ℤ} → Within mostRoundable s → Within 549755813887 (shrZ s unit²)
-shr-small {s} w = record {
-  within = given₃ (shr-lo s unit² (omega arith)) (shr-hi s unit² (omega arith)) w (simp lia
-      (omega arith));
+pub floor-small : {s : ℤ} → Within mostRoundable s → Within mostFloor (shrZ s unit²)
+floor-small {s} w = record {
+  within = given₃ (shr-lo s unit² (omega arith)) (shr-hi s unit² (omega arith)) w (simp lia (omega arith));
 }
 
 pub share-most : (rule : Rule) → share rule ≤ 4096

@@ -40,8 +40,8 @@ fn lift(down: bool, even: bool, half: i64, q: i64) -> i64
     half
 }
 
-// R of a line's sum, by the rule. A shift to the right is a floor, also below zero. By rule 0 it is 4096·r ≤ s + 2048 < 4096·r +
-// 4096, so -2048 gives 0 and -2049 gives -1 (`roundings`).
+// R of a line's sum, by the rule. A shift to the right is a floor, also below zero: by rule 0 it is 4096·r ≤ s + 2048, and
+// s + 2048 < 4096·r + 4096. So -2048 gives 0 and -2049 gives -1 (`roundings`).
 pub fn round_line(down: bool, even: bool, s: i64) -> i64
     requires { ⌜ Within mostRoundable s ⌝ }
     ensures { λ r. ⌜ (r ≡ R (ruleBy down even) unit s) × Rounds (ruleBy down even) unit s r ⌝ }

@@ -97,8 +97,8 @@ pub fn is_other(down: bool, even: bool) -> bool
     even
 }
 
-// Whether n numbers go through the code that is written out for m numbers. Under another rule they go through the loop over n: one
-// more test at each number would keep the compiler from writing the code out.
+// Whether n numbers go through the code that is written out for m numbers. Under another rule they go through the loop over n:
+// one more test at each number would keep the compiler from writing the code out.
 pub fn is_written(other: bool, n: usize, m: usize) -> bool
     ensures { λ r. ⌜ (r ≡ true → (other ≡ false) × (n ≡ m)) ⌝ }
 {

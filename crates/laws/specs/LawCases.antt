@@ -1,5 +1,5 @@
 -- CASES OF THE LAWS, by computation: a law that promised more would be false, and a cut counts stages as the whole does.
-use mathlib.Core.Bool.{Bool, true, false}
+use mathlib.Core.Bool.{true, false}
 use mathlib.Core.List.{List, [], _∷_}
 use mathlib.Core.Path.{_≡_, refl}
 use Prim.Native.Nat.{ℕ, _*_, _^_}
@@ -14,7 +14,7 @@ use Rattle.rules.specs.Stages.{R, share, ceiling, fill, inside, off, weighed, m
 use Rattle.rules.specs.Stages.{through, runForward, runAllowance, exactProduct, exactScale}
 use Rattle.rules.specs.Shapes.{those, byTurn, turn, order, inRow, stageOf, lineStage, lineStages, jointSource, jointSign}
 use Rattle.rules.specs.Shapes.{jointWeight, jointShared, jointStage, jointStages}
-use Rattle.rules.specs.Answers.{_or-else_, accepted, refused, further, first, matching, pairChecked}
+use Rattle.rules.specs.Answers.{_or-else_, accepted, refused, further}
 use Rattle.rules.specs.Calls.{Reply, reply, line, joint, ranAnswer, ranMemory, runReply, forwardCall, allowanceCall}
 use Rattle.rules.specs.Calls.{ruleOf, ruled}
 use Rattle.rules.specs.Strips.{stripAnswer, outputs, bytesOf, strip}

@@ -10,7 +10,7 @@ use mir.Val.{toZ, ofZ}
 use Rattle.whole.specs.Diff.{Within}
 use Rattle.whole.specs.Machine.{within-le, within-pos, within-+, within--, within-shr, fits, reads, back}
 use Rattle.rules.specs.Numbers.{unit²}
-use Rattle.factor.specs.Rounding.{mostRoundable, liftBy, lift-most, rounds-past, shr-small}
+use Rattle.factor.specs.Rounding.{mostRoundable, liftBy, lift-most, rounds-past, floor-small}
 use Rattle.factor.proofs.rounding.round_past.Statement.{statement}
 use Rattle.factor.proofs.rounding.round_past.Tie as tie
 
@@ -18,24 +18,20 @@ use Rattle.factor.proofs.rounding.round_past.Tie as tie
 floor : (s : tie.Start) → toZ w64 (ofZ w64 (shrZ (toZ w64 (ofZ w64 (s .args .s))) unit²)) ≡ shrZ (s .args .s) unit²
 floor s = rw (toZ-ofZ (s .fits .s)) (reads w64 (within-shr unit² (s .pre .0)) tt)
 
--- a floor is much smaller than its sum
-floor-small : (s : tie.Start) → Within 549755813887 (shrZ (s .args .s) unit²)
-floor-small s = shr-small (s .pre .0)
-
 sub-lift : tie.Need-sub-lift
 sub-lift c =
-    rw (floor c, toZ-ofZ (c .fits .k)) (fits (within-- (floor-small c) (c .pre .1)) tt)
+    rw (floor c, toZ-ofZ (c .fits .k)) (fits (within-- (floor-small (c .pre .0)) (c .pre .1)) tt)
 
 without : (s : tie.Start) →
     toZ w64 (ofZ w64 (toZ w64 (ofZ w64 (shrZ (toZ w64 (ofZ w64 (s .args .s))) unit²)) -ℤ toZ w64 (ofZ w64 (s .args .k))))
     ≡ shrZ (s .args .s) unit² -ℤ s .args .k
-without s = rw (floor s, toZ-ofZ (s .fits .k)) (reads w64 (within-- (floor-small s) (s .pre .1)) tt)
+without s = rw (floor s, toZ-ofZ (s .fits .k)) (reads w64 (within-- (floor-small (s .pre .0)) (s .pre .1)) tt)
 
 lift-requires : tie.Need-lift-requires
 lift-requires c κs = (
   record { le = tt },
   record { within = omega arith },
-  rw (without c) (within-le (omega arith) (within-- (floor-small c)
+  rw (without c) (within-le (omega arith) (within-- (floor-small (c .pre .0))
       (c .pre .1))),
 )
 

@@ -126,8 +126,8 @@ value c =
     let l = i .before .loop in
     back w64 _ (c .applied-whole .ok) ∙ c .applied-whole .ensures
     ∙ rw (total (c .before .before .before), sign (c .before .before), number i)
-    (applied-from (ruleBy (a .down) (a .even)) (a .row .now) (a .f) (l .j) (toZ w32 (ofZ w32 (a .d))) (a .v .now) (at (l .x)
-    (a .k + l .j))
+    (applied-from (ruleBy (a .down) (a .even)) (a .row .now) (a .f) (l .j) (toZ w32 (ofZ w32 (a .d))) (a .v .now)
+    (at (l .x) (a .k + l .j))
     ∙ sym (applied-in (ruleBy (a .down) (a .even)) (a .row .now) (a .f) (toZ w32 (ofZ w32 (a .d))) (a .v .now) (a .k) (l .j)
     (l .x)))
 
