@@ -10,9 +10,14 @@ enum { MORE = 1, STRIP = 20, MOST = MOST_BLOCKS * ORDER * ORDER + MORE, PAINT = 
 
 static size_t answers[MOST_NUMBER + 1];
 
+static void print_answer(struct answer a)
+{
+	printf("%u %u %zu %zu", a.number, a.side, (size_t)a.place, (size_t)a.element);
+}
+
 static void agree(int way, struct recipe r, struct answer a, struct answer b, bool equal)
 {
-	if (a.number == b.number && a.side == b.side && a.place == b.place && equal) {
+	if (a.number == b.number && a.side == b.side && a.place == b.place && a.element == b.element && equal) {
 		answers[a.number]++;
 		return;
 	}
@@ -20,8 +25,11 @@ static void agree(int way, struct recipe r, struct answer a, struct answer b, bo
 	if (r.row)
 		printf(" by %d", r.row->at[0]);
 	printf(", rule %u", r.rule);
-	printf(": the library answers %u %u %zu, the twin %u %u %zu%s\n", a.number, a.side, (size_t)a.place, b.number, b.side,
-	       (size_t)b.place, equal ? "" : ", and what they write differs");
+	printf(": the library answers ");
+	print_answer(a);
+	printf(", the twin ");
+	print_answer(b);
+	printf("%s\n", equal ? "" : ", and what they write differs");
 	exit(1);
 }
 
@@ -109,8 +117,10 @@ static void some_block(int32_t *x, size_t n)
 	int32_t most = SAMPLE >> between(0, 14);
 	for (size_t k = 0; k < n; k++)
 		x[k] = at_edge ? edge[between(0, 7)] : between(-most, most);
-	if (once_in(20))
-		x[between(0, (int32_t)n - 1)] = beyond[between(0, 3)];
+	if (once_in(20)) { // two, so that it matters which is named
+		size_t at = (size_t)between(0, (int32_t)n - 1);
+		x[at] = x[n - 1 - at] = beyond[between(0, 3)];
+	}
 }
 
 // A length, or at times one more.

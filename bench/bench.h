@@ -1,5 +1,5 @@
 // What main.c times and stack.c measures: the calls of the library (crates/bench), and their twins in the best plain C for the
-// same answers (line.c, rectangle.c).
+// same answers (line.c, rectangle.c, and for refusals check.c and element.c).
 #ifndef BENCH_H
 #define BENCH_H
 #include <stddef.h>
@@ -8,7 +8,7 @@
 
 struct answer {
 	uint32_t number, side;
-	uint64_t place;
+	uint64_t place, element;
 };
 
 enum { ORDER = 16, COUNT = 32, ENTRY = 16384, SAMPLE = 16777215, RULES = 3 };

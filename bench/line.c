@@ -193,14 +193,23 @@ INLINE struct answer run_by_rule(uint32_t rule, struct call c, bool back, bool s
 	}
 }
 
+// A single block; if it is refused for range, which number was beyond the bound is looked for apart.
+INLINE struct answer run_one(uint32_t rule, struct call c, bool back)
+{
+	struct answer a = run_by_rule(rule, c, back, false);
+	if (a.number == 11)
+		a.element = twin_element(rule, c.s, c.sn, NULL, 0, c.x, back);
+	return a;
+}
+
 struct answer twin_forward(uint32_t rule, const int32_t *s, size_t sn, const int32_t *x, size_t xn, int32_t *y, size_t yn)
 {
-	return run_by_rule(rule, (struct call){s, sn, x, xn, y, yn, NULL, 0}, false, false);
+	return run_one(rule, (struct call){s, sn, x, xn, y, yn, NULL, 0}, false);
 }
 
 struct answer twin_inverse(uint32_t rule, const int32_t *s, size_t sn, const int32_t *x, size_t xn, int32_t *y, size_t yn)
 {
-	return run_by_rule(rule, (struct call){s, sn, x, xn, y, yn, NULL, 0}, true, false);
+	return run_one(rule, (struct call){s, sn, x, xn, y, yn, NULL, 0}, true);
 }
 
 struct answer twin_strip_forward(uint32_t rule, const int32_t *s, size_t sn, const int32_t *x, size_t xn, int32_t *y, size_t yn,

@@ -13,33 +13,32 @@ struct slice {
 	size_t len;
 };
 
-// What a call is given, word by word: a rule, where it takes one, and at most five slices. A call without a rule begins at the
-// slices, so there is a word after them.
-struct words {
-	uint64_t rule;
-	struct slice slices[5];
-	uint64_t none;
-};
+// What a call is given, word by word: where its answer goes, if it gives one; a rule, if it takes one; at most five slices.
+enum { SLICES = 5, WORDS = 2 + 2 * SLICES };
 
 typedef void code(void);
 
+// What a call gives: an answer, or a length.
 struct result {
-	uint64_t first, second; // an answer's number and side, and its place; or a length
+	struct answer answer;
+	uint64_t length;
 };
+
+// An answer has three words, so C and Rattle write it where the caller says. That is not on the stack that is measured.
+static struct answer answered;
 
 enum { DEEPEST = 1 << 20, PUSHED = 6 * 8 };
 static _Alignas(16) uint8_t stack[DEEPEST];
 static uint8_t *const top = stack + DEEPEST;
 
-// Six words go in registers and five on the stack, as C passes them, above them a word that makes the stack a multiple of 16. A
-// call with fewer does not look at the others. Nothing but these is pushed before the call, so all that is written below them is
-// the call's.
-static struct result call_at_top(code *f, const void *words)
+// Six words go in registers and six on the stack, as C passes them. A call with fewer does not look at the others. Nothing but
+// these is pushed before the call, so all that is written below them is the call's.
+static struct result call_at_top(code *f, const uint64_t words[WORDS])
 {
-	struct result r;
+	uint64_t length;
 	__asm__ volatile("movq %%rsp, %%rbx\n\t"
 			 "movq %[top], %%rsp\n\t"
-			 "subq $8, %%rsp\n\t"
+			 "pushq 88(%%rax)\n\t"
 			 "pushq 80(%%rax)\n\t"
 			 "pushq 72(%%rax)\n\t"
 			 "pushq 64(%%rax)\n\t"
@@ -53,11 +52,11 @@ static struct result call_at_top(code *f, const void *words)
 			 "movq (%%rax), %%rdi\n\t"
 			 "callq *%[f]\n\t"
 			 "movq %%rbx, %%rsp"
-			 : "=&a"(r.first), "=&d"(r.second)
+			 : "=&a"(length)
 			 : "0"(words), [f] "r"(f), [top] "r"(top)
-			 : "rbx", "rcx", "rsi", "rdi", "r8", "r9", "r10", "r11", "xmm0", "xmm1", "xmm2", "xmm3", "xmm4", "xmm5", "xmm6",
+			 : "rbx", "rcx", "rdx", "rsi", "rdi", "r8", "r9", "r10", "r11", "xmm0", "xmm1", "xmm2", "xmm3", "xmm4", "xmm5", "xmm6",
 			   "xmm7", "xmm8", "xmm9", "xmm10", "xmm11", "xmm12", "xmm13", "xmm14", "xmm15", "cc", "memory");
-	return r;
+	return (struct result){answered, length};
 }
 
 static void deepen(size_t *most, size_t depth)
@@ -68,7 +67,7 @@ static void deepen(size_t *most, size_t depth)
 
 // From the stack pointer at the call instruction down to the lowest byte that differs from the paint. A written byte that is
 // equal to one paint differs from the other. Only the upper part is painted, `reach` bytes, of which a call may use half.
-static size_t depth_of(code *f, const void *words, size_t reach, struct result *r)
+static size_t depth_of(code *f, const uint64_t words[WORDS], size_t reach, struct result *r)
 {
 	static const uint8_t paints[2] = {0xa5, 0x5a};
 	size_t deepest = 0;
@@ -159,11 +158,16 @@ static struct {
 
 static bool takes_rule(size_t which) { return which >= LINE && which < TEXT; }
 
-static struct result ask(size_t which, uint32_t rule, const struct slice a[5])
+static bool gives_length(size_t which) { return which == REST || which == TEXT; }
+
+static struct result ask(size_t which, uint32_t rule, const struct slice a[SLICES])
 {
-	struct words w = {.rule = rule};
-	memcpy(w.slices, a, sizeof w.slices);
-	const void *words = takes_rule(which) ? (const void *)&w.rule : w.slices;
+	uint64_t words[WORDS] = {0}, *w = words;
+	if (!gives_length(which))
+		*w++ = (uint64_t)&answered;
+	if (takes_rule(which))
+		*w++ = rule;
+	memcpy(w, a, SLICES * sizeof *a);
 	size_t reach = which == TEXT ? DEEPEST : DEEPEST / 16; // the program keeps three long arrays
 	struct result r, s;
 	deepen(&seen[which].library, depth_of(calls[which].library, words, reach, &r));
@@ -172,16 +176,15 @@ static struct result ask(size_t which, uint32_t rule, const struct slice a[5])
 	return r;
 }
 
-static void ask_answer(size_t which, uint32_t rule, const struct slice a[5])
+static void ask_answer(size_t which, uint32_t rule, const struct slice a[SLICES])
 {
-	struct result r = ask(which, rule, a);
-	uint32_t number = (uint32_t)r.first;
-	seen[which].answers |= 1u << number;
-	if (number == 11)
-		seen[which].stages |= 1ull << r.second;
+	struct answer r = ask(which, rule, a).answer;
+	seen[which].answers |= 1u << r.number;
+	if (r.number == 11)
+		seen[which].stages |= 1ull << r.place;
 }
 
-#define ASK(which, ...) ask_answer(which, 0, (struct slice[5]){__VA_ARGS__})
+#define ASK(which, ...) ask_answer(which, 0, (struct slice[SLICES]){__VA_ARGS__})
 
 // ---- sheets
 
@@ -328,14 +331,14 @@ static void ask_runs(size_t shape, struct slice *a, size_t sheets, size_t size)
 static void ask_sheet(const struct sheet *s)
 {
 	ASK(CHECK, of(s));
-	ask_runs(LINE, (struct slice[5]){of(s)}, 1, order_of(s));
+	ask_runs(LINE, (struct slice[SLICES]){of(s)}, 1, order_of(s));
 }
 
 static void ask_pair(const struct sheet *col, const struct sheet *row)
 {
 	ASK(CHECK_PAIR, of(col), of(row));
-	ask(REST, 0, (struct slice[5]){of(col), of(row)});
-	ask_runs(BLOCK, (struct slice[5]){of(col), of(row)}, 2, order_of(col) * order_of(row));
+	ask(REST, 0, (struct slice[SLICES]){of(col), of(row)});
+	ask_runs(BLOCK, (struct slice[SLICES]){of(col), of(row)}, 2, order_of(col) * order_of(row));
 }
 
 // ---- recipe bytes, and what the program prints
@@ -378,8 +381,8 @@ static void ask_recipe(const struct sheet *s)
 static void ask_text(const struct spelling *b)
 {
 	static char out[4096];
-	struct result r = ask(TEXT, 0, (struct slice[5]){{b->at, b->len}, {out, sizeof out - 1}});
-	out[r.first] = 0;
+	struct result r = ask(TEXT, 0, (struct slice[SLICES]){{b->at, b->len}, {out, sizeof out - 1}});
+	out[r.length] = 0;
 	const char *refusal = strstr(out, "refused ");
 	seen[TEXT].answers |= 1u << (refusal ? atoi(refusal + 8) : 0);
 }

@@ -7,7 +7,7 @@
 
 #define INLINE static inline __attribute__((always_inline))
 
-INLINE struct answer refused(uint32_t number, uint32_t side, uint64_t place) { return (struct answer){number, side, place}; }
+INLINE struct answer refused(uint32_t number, uint32_t side, uint64_t place) { return (struct answer){number, side, place, 0}; }
 
 // ---- runs of numbers: a test that ends at the first fault is slower where there is none
 
@@ -87,6 +87,9 @@ INLINE bool decode(const int32_t *s, size_t len, size_t n, struct step t[COUNT])
 }
 
 struct answer twin_check(const int32_t *s, size_t len, uint32_t side); // 1 to 9, from the left, the first fault
+
+// Which number of x a run that answers 11 names; no row sheet: a line.
+uint64_t twin_element(uint32_t rule, const int32_t *col, size_t cn, const int32_t *row, size_t rn, const int32_t *x, bool back);
 
 // 10, of a block of n numbers and of a strip of such blocks.
 INLINE struct answer lengths(size_t n, bool strip, size_t xn, size_t yn, size_t bn)

@@ -5,10 +5,11 @@ CALLS is a comma list of call names (or `all`, or `figures` for the printed
 figures, whatever SEED and COUNT); COUNT cases of each call follow
 one another, so a list of calls gives the streams of its calls end to end.
 With TALLY=1 in the environment the answers are counted on standard error, and
-for the runs and allowances how many cases another rule would answer otherwise.
+for the runs and allowances how many cases another rule would answer otherwise,
+and for refusals 11 how much hangs on the element that they name.
 
 A case: call number, rule, lengths of A, B, X, Y; the words of A, B, X, Y;
-number, side, place; the words of Y after the call.
+number, side, place, element; the words of Y after the call.
 """
 
 import os
@@ -33,6 +34,9 @@ WRONG_LENGTH = 0.12
 MISMATCH = 0.08
 STEEP = 0.06
 HEAVY = 0.003
+
+# How often a run has several numbers beyond the bound at one stage, mostly.
+CROWD = 0.34
 
 
 # ---------------------------------------------------------------------------
@@ -72,7 +76,7 @@ def case_pair(rng, longest):
 def case_rest(rng, longest):
     col, row = pair_for_check(rng, longest)
     which, start = model.rest(col, row)
-    return Case(0, col, row, [], [], (which, 0, start), [])
+    return Case(0, col, row, [], [], (which, 0, start, 0), [])
 
 
 # ---------------------------------------------------------------------------
@@ -184,7 +188,18 @@ def inverse_input(rng, rule, sheet, length):
     return generate.some_block(rng, length)
 
 
+def case_crowd(rng, recipe, call):
+    """A run in which it matters which element is named; sheet and slices are right."""
+    col, row = recipe
+    rule, x = generate.some_rule(rng), generate.crowd_block(rng, laws.block_length(recipe))
+    y = generate.lent(rng, len(x))
+    answer, after = call(rule, col, x, y) if row is None else call(rule, col, row, x, y)
+    return Case(rule, col, row or [], x, y, answer, after)
+
+
 def case_line_run(rng, longest, make_input, call):
+    if not longest and chance(rng, CROWD):
+        return case_crowd(rng, laws.crowd_line(rng, call is model.line_inverse), call)
     rule, draft = case_rule(rng, longest), line_draft(rng, longest)
     sheet = numbers_of(draft)
     x_length, y_length = (16, 16) if longest else block_lengths(rng, [sheet[0]])
@@ -279,6 +294,8 @@ def case_heavy_run(rng, call):
 def case_joint_run(rng, longest, make_input, call):
     if not longest and chance(rng, HEAVY):
         return case_heavy_run(rng, call)
+    if not longest and chance(rng, CROWD):
+        return case_crowd(rng, laws.crowd_pair(rng, call is model.joint_inverse), call)
     rule = case_rule(rng, longest)
     column, row = joint_drafts(rng, longest)
     col_sheet, row_sheet = numbers_of(column), numbers_of(row)
@@ -463,7 +480,7 @@ def program_bytes(rng, longest):
 def case_program(rng, longest):
     data = program_bytes(rng, longest)
     printed = list(model.program(data).encode("ascii"))
-    return Case(0, data, [], [], [0] * len(printed), (0, 0, len(printed)), printed)
+    return Case(0, data, [], [], [0] * len(printed), (0, 0, len(printed), 0), printed)
 
 
 # ---------------------------------------------------------------------------
@@ -500,7 +517,7 @@ def law_case(rule, recipe, x, ranges):
     """A forward run whose coefficients have to lie in those ranges."""
     col, row = recipe
     least, most = [low for low, _ in ranges], [high for _, high in ranges]
-    return Case(rule, col, row or [], x, least, (0, 0, 0), most)
+    return Case(rule, col, row or [], x, least, laws.OK, most)
 
 
 def by_exact_product(rng, rule, recipe, longest):
@@ -534,24 +551,33 @@ def case_law(rng, longest, joint):
             return case
 
 
+def cut_run(rng, rule, longest, joint):
+    """A recipe to be cut, and a block for it."""
+    if not longest and chance(rng, CROWD):
+        recipe = laws.crowd_pair(rng) if joint else laws.crowd_line(rng)
+        return recipe, generate.crowd_block(rng, laws.block_length(recipe))
+    recipe = law_recipe(rng, longest, joint)
+    return recipe, law_block(rng, rule, recipe, longest)
+
+
 def case_cut(rng, longest, joint):
     """The second part of a cut recipe, on what the first part gave, all by one rule."""
     rule = generate.true_rule(rng)
     while True:
-        recipe = law_recipe(rng, longest, joint)
+        recipe, x = cut_run(rng, rule, longest, joint)
         col, row = recipe
         if col[1] < 2:
             continue
         position = rng.randint(1, col[1] - 1)
         (col1, col2), (row1, row2) = laws.cut_sheet(col, position), laws.cut_sheet(row, position) if joint else (None, None)
-        x = law_block(rng, rule, recipe, longest)
         first, between = laws.run_forward(rule, (col1, row1), x)
         if first != laws.OK:
             continue
-        (number, side, stage), whole = laws.run_forward(rule, recipe, x)
+        (number, side, stage, element), whole = laws.run_forward(rule, recipe, x)
         y = generate.lent(rng, len(x))
         after = whole if number == 0 else y
-        return Case(rule, col2, row2 or [], between, y, (number, side, stage - position if number else 0), after)
+        answer = (number, side, stage - position if number else 0, element)
+        return Case(rule, col2, row2 or [], between, y, answer, after)
 
 
 def case_line_law(rng, longest):
@@ -634,7 +660,17 @@ def rule_cases():
     yield printed(9, laws.SHEET_ALMOST, [], [], 2, ok, [0, 4096], 1)
     for call in (7, 8, 9, 10, 11, 12, 17, 18, 19, 20):
         for rule in (3, 2 ** 32 - 1):
-            yield printed(call, [], [], [0], 1, (16, 0, 0), None, rule)
+            yield printed(call, [], [], [0], 1, (16, 0, 0, 0), None, rule)
+
+
+def element_cases():
+    """Request R-7: which element a refusal 11 names, the same by every rule."""
+    calls = {("forward", False): 7, ("inverse", False): 8, ("forward", True): 10, ("inverse", True): 11}
+    for what, col, row, x, answer in laws.ELEMENTS:
+        for rule in (0, 1, 2):
+            yield printed(calls[what, row is not None], col, row or [], x, len(x), answer, None, rule)
+    sheet, answer = laws.NO_ELEMENT
+    yield printed(9, sheet, [], [], 2, answer, None)
 
 
 def figure_cases():
@@ -646,16 +682,16 @@ def figure_cases():
     yield printed(forward, sheet_a, [], [-2, 5], 2, ok, [-2, 4])
     yield printed(forward, sheet_a, [], [-1, 5], 2, ok, [-1, 5])
     yield printed(allow, sheet_a, [], [], 2, ok, [0, 2048])
-    yield printed(write, sheet_a, [], [], 7, (0, 0, 7), bytes_a)
-    yield printed(read, bytes_a, [], [], 6, (0, 0, 6), sheet_a)
+    yield printed(write, sheet_a, [], [], 7, (0, 0, 7, 0), bytes_a)
+    yield printed(read, bytes_a, [], [], 6, (0, 0, 6, 0), sheet_a)
     yield printed(forward, sheet_b, [], [3, 5], 2, ok, [-7, -7])
     yield printed(inverse, sheet_b, [], [-7, -7], 2, ok, [3, 5])
     yield printed(forward, sheet_c, [], [10, 20, 30], 3, ok, [30, 10, 20])
     yield printed(forward, sheet_d, [], [4, 7, 3], 3, ok, [4, -2, 3])
     yield printed(allow, sheet_d, [], [], 3, ok, [0, 2048, 0])
     yield printed(forward, sheet_e, [], [16777215, 0], 2, ok, [16777215, 16777215])
-    yield printed(forward, sheet_e, [], [16777215, 1], 2, (11, 0, 1), None)
-    yield printed(forward, sheet_e, [], [16777216, 0], 2, (11, 0, 0), None)
+    yield printed(forward, sheet_e, [], [16777215, 1], 2, (11, 0, 1, 1), None)
+    yield printed(forward, sheet_e, [], [16777216, 0], 2, (11, 0, 0, 0), None)
     yield printed(allow, sheet_e, [], [], 2, ok, [0, 0])
     yield printed(joint, sheet_a, sheet_a, [1, 1, 0, 0], 4, ok, [1, 2, 1, 1])
     yield printed(11, sheet_a, sheet_a, [1, 2, 1, 1], 4, ok, [1, 1, 0, 0])
@@ -664,8 +700,9 @@ def figure_cases():
         yield printed(inverse, table, [], [50, 50, 50, 50], 4, ok, [100, 0, 0, 0])
     yield printed(forward, first, [], [0, 100, 0, 0], 4, ok, [163, -94, 94, -65])
     yield printed(forward, corrected, [], [0, 100, 0, 0], 4, ok, [65, 28, -28, -65])
-    yield printed(read, [0x84, 0x00], [], [], 2, (14, 0, 0), None)
+    yield printed(read, [0x84, 0x00], [], [], 2, (14, 0, 0, 0), None)
     yield from rule_cases()
+    yield from element_cases()
 
 
 def signed(bits):
@@ -716,25 +753,69 @@ def tally_rules(number, case):
     if number not in BY_RULE:
         return []
     by_rule = [BY_RULE[number](rule, case) for rule in model.RULES]
-    return [f"rule {rule}" for rule in (1, 2) if by_rule[rule] != by_rule[0]]
+    return [f"rule {rule} differs" for rule in (1, 2) if by_rule[rule] != by_rule[0]]
 
 
-def print_tally(name, tally, rules, count, size):
+def line_stage(back, case, stage):
+    """The numbers of a line's stage, and the recovery order of its factor; at
+    stage 0 that of the first factor, which a wrong call might go by."""
+    recipe = model.recipe_of(case.a)
+    factors, step = (recipe.factors[::-1], model.undo_line) if back else (recipe.factors, model.apply_line)
+    x = case.x
+    for factor in factors[:stage]:
+        x = step(case.rule, factor, x)
+    return x, model.line_recovery(factors[max(0, stage - 1)], recipe.order)
+
+
+def joint_stage(back, case, stage):
+    """The same of a rectangle."""
+    a, b = model.pair_of(case.a, case.b)
+    pairs, step = list(zip(a.factors, b.factors)), model.undo_joint if back else model.apply_joint
+    pairs = pairs[::-1] if back else pairs
+    x = model.rows_of(case.x, a.order, b.order)
+    for fa, fb in pairs[:stage]:
+        x = step(case.rule, fa, fb, x)
+    return model.flat(x), model.joint_elements(*pairs[max(0, stage - 1)], a.order, b.order)
+
+
+STAGE = {
+    7: lambda case, stage: line_stage(False, case, stage),
+    8: lambda case, stage: line_stage(True, case, stage),
+    10: lambda case, stage: joint_stage(False, case, stage),
+    11: lambda case, stage: joint_stage(True, case, stage),
+}
+
+
+def tally_elements(number, case):
+    """For a refusal 11: at which stage, whether several numbers were beyond the
+    bound there, whether reading order and recovery order name different ones."""
+    if number not in STAGE or case.answer[0] != 11:
+        return []
+    stage = case.answer[2]
+    numbers, recovery = STAGE[number](case, stage)
+    first, first_recovered = [[e for e in order if model.is_beyond(numbers[e])][0]
+                              for order in (model.reading_order(numbers), recovery)]
+    several = sum(model.is_beyond(z) for z in numbers) > 1
+    return (["11 at stage 0" if stage == 0 else "11 at a later stage"]
+            + ["11 with several beyond"] * several + ["11 where the orders differ"] * (first != first_recovered))
+
+
+def print_tally(name, tally, more, count, size):
     answers = " ".join(f"{number}:{tally[number]}" for number in sorted(tally))
-    apart = "".join(f", {rule} differs in {rules[rule]}" for rule in sorted(rules))
-    print(f"{name} {count} cases, {size // max(1, count)} bytes a case, {answers}{apart}",
+    counts = "".join(f", {what}: {more[what]}" for what in sorted(more))
+    print(f"{name} {count} cases, {size // max(1, count)} bytes a case, {answers}{counts}",
           file=sys.stderr)
 
 
 def write_stream(name, seed, count, out, tallied):
-    number, tally, rules, size = CALLS[name][0], Counter(), Counter(), 0
+    number, tally, more, size = CALLS[name][0], Counter(), Counter(), 0
     for case in cases_of(name, seed, count):
         size += out.write(packed(words_of(number, case)))
         if tallied:
             tally[tally_key(name, case)] += 1
-            rules.update(tally_rules(number, case))
+            more.update(tally_rules(number, case) + tally_elements(number, case))
     if tallied:
-        print_tally(name, tally, rules, count, size)
+        print_tally(name, tally, more, count, size)
 
 
 def main(arguments):

@@ -9,8 +9,8 @@ import sys
 import generate
 import model
 
-NUMBER, SIDE, PLACE = 0, 1, 2
-OK = (0, 0, 0)
+NUMBER, SIDE, PLACE, ELEMENT = 0, 1, 2, 3
+OK = (0, 0, 0, 0)
 
 SHEET_A = [2, 1, 2, 1, 1, 2048]
 SHEET_B = [2, 2, 2, 1, 1, 2048, 3, 1, -1, -6144]
@@ -59,6 +59,55 @@ SHEET_ALMOST = [2, 1, 2, 1, 1, 4095]
 # exact product of (1, 0) is (1, 0). Each pair of factors adds 1, -1 or 0.
 SHEET_DRIFT = [2, 8] + [2, 1, 1, 2048, 2, 1, 1, -2048] * 4
 DRIFT = [[1, 4], [1, -4], [1, 0]]
+
+# Request R-7, worked out by hand: the element that a refusal 11 names. Entries
+# are 0 or 1, so that a stage is a few additions and no rule rounds anything.
+T = model.SAMPLE_LIMIT
+LOW_2 = SHEET_E
+UP_2 = [2, 1, 3, 1, 1, 4096]
+LOW_3 = [3, 1, 2, 1, 1, 1, 4096, 4096, 0]  # adds number 0 to numbers 1 and 2
+UP_3 = [3, 1, 3, 1, 1, 1, 0, 4096, 4096]  # adds number 2 to numbers 0 and 1
+ROW_0 = [2, 1, 4, 0, 1, 1, 4096]  # adds number 1 to number 0
+ROW_1 = [2, 1, 4, 1, 1, 1, 4096]  # adds number 0 to number 1
+MIDDLE = [3, 1, 4, 1, 1, 1, 1, 4096, 4096]  # adds numbers 0 and 2 to number 1
+TURN_UP = [3, 2, 1, 2, 0, 1, 3, 1, 1, 1, 0, 4096, 4096]  # (x0, x1, x2) to (x2, x0, x1), then UP_3
+UP_TURN = [3, 2, 3, 1, 1, 1, 0, 4096, 4096, 1, 2, 0, 1]  # the same factors the other way round
+SWAP_UP = [2, 2, 1, 1, 0, 3, 1, 1, 4096]  # (x0, x1) to (x1, x0), then UP_2
+UP_SWAP = [2, 2, 3, 1, 1, 4096, 1, 1, 0]
+WIDE = [2, 9] + [2, 1, 1, 16383, 3, 1, 1, 16383] * 4 + [2, 1, 1, 16383]
+
+# What is run, column sheet, row sheet (none: a line), block, answer. Beside it
+# the numbers up to the refused stage, and where the orders name different
+# elements, which.
+ELEMENTS = [
+    ("forward", LOW_3, None, [1, T, T], (11, 0, 1, 1)),  # 1, T+1, T+1
+    ("inverse", LOW_3, None, [-1, T, T], (11, 0, 1, 1)),  # -1, T+1, T+1: kind 2 is undone in reading order
+    ("forward", UP_3, None, [T, T, 1], (11, 0, 1, 0)),  # T+1, T+1, 1: reading 0, recovery 1
+    ("inverse", UP_3, None, [T, T, -1], (11, 0, 1, 1)),  # T+1, T+1, -1: reading 0, recovery 1
+    ("forward", MIDDLE, None, [1, T, 0], (11, 0, 1, 1)),  # 1, T+1, 0: of a line only number r can be beyond
+    ("inverse", MIDDLE, None, [-1, T, 0], (11, 0, 1, 1)),  # -1, T+1, 0
+    ("forward", UP_3, None, [0, T + 1, -T - 1], (11, 0, 0, 1)),  # as given: reading 1, recovery 2
+    ("inverse", UP_3, None, [0, T + 1, -T - 1], (11, 0, 0, 1)),  # the same
+    ("forward", TURN_UP, None, [T, 1, T], (11, 0, 2, 0)),  # T, T, 1; then T+1, T+1, 1: reading 0, recovery 1
+    ("inverse", UP_TURN, None, [-1, T, T], (11, 0, 2, 1)),  # T, T, -1; then T+1, T+1, -1: reading 0, recovery 1
+    ("forward", LOW_2, LOW_2, [1, T, T, -T], (11, 0, 1, 1)),  # 1, T+1; T+1, T+1
+    ("inverse", LOW_2, LOW_2, [-1, T, T, T], (11, 0, 1, 1)),  # -1, T+1; T+1, -T-1
+    ("forward", UP_2, UP_2, [-T, T, T, 1], (11, 0, 1, 0)),  # T+1, T+1; T+1, 1: reading 0, recovery 2
+    ("inverse", UP_2, UP_2, [T, T, T, -1], (11, 0, 1, 2)),  # -T-1, T+1; T+1, -1: reading 0, recovery 2
+    ("forward", ROW_1, ROW_0, [T, 1, -T, T], (11, 0, 1, 0)),  # T+1, 1; T+1, T+1: reading 0, recovery 3
+    ("inverse", ROW_1, ROW_0, [T, -1, T, T], (11, 0, 1, 3)),  # T+1, -1; -T-1, T+1: reading 0, recovery 3
+    # 1, T+1, 0; T+1, T+1, 0; 0, 0, 0: reading 1, recovery 3, row r before column q
+    ("forward", MIDDLE, MIDDLE, [1, T, 0, T, -T, 0, 0, 0, 0], (11, 0, 1, 1)),
+    # -1, T+1, 0; T+1, -T-1, 0; 0, 0, 0: reading 1, recovery 3
+    ("inverse", MIDDLE, MIDDLE, [-1, T, 0, T, T, 0, 0, 0, 0], (11, 0, 1, 3)),
+    ("forward", UP_2, UP_2, [0, T + 1, 0, -T - 1], (11, 0, 0, 1)),  # as given: reading 1, recovery 3
+    ("inverse", UP_2, UP_2, [0, T + 1, 0, -T - 1], (11, 0, 0, 1)),  # the same
+    ("forward", SWAP_UP, SWAP_UP, [1, T, T, -T], (11, 0, 2, 0)),  # -T, T; T, 1; then T+1, T+1; T+1, 1
+    ("inverse", UP_SWAP, UP_SWAP, [-1, T, T, T], (11, 0, 2, 2)),  # T, T; T, -1; then -T-1, T+1; T+1, -1
+]
+
+# In every other answer it is 0, also where a stage is named.
+NO_ELEMENT = (WIDE, (13, 0, 9, 0))
 
 
 class Group:
@@ -124,8 +173,8 @@ def figure_d(group):
 
 def figure_e(group):
     group.same(run(SHEET_E, [16777215, 0]), (OK, [16777215, 16777215]))
-    group.same(run(SHEET_E, [16777215, 1]), ((11, 0, 1), [9, 9]))
-    group.same(run(SHEET_E, [16777216, 0]), ((11, 0, 0), [9, 9]))
+    group.same(run(SHEET_E, [16777215, 1]), ((11, 0, 1, 1), [9, 9]))
+    group.same(run(SHEET_E, [16777216, 0]), ((11, 0, 0, 0), [9, 9]))
     group.same(allowance(SHEET_E), (OK, [0, 0]))
 
 
@@ -224,7 +273,7 @@ def rule_allowances(group):
 def rule_refusals(group):
     """16 comes before all others: here no sheet is one, and no length fits."""
     for rule in generate.WRONG_RULES:
-        refused = ((16, 0, 0), [9])
+        refused = ((16, 0, 0, 0), [9])
         group.same(model.line_forward(rule, [], [], [9]), refused)
         group.same(model.line_inverse(rule, [], [], [9]), refused)
         group.same(model.line_allowance(rule, [], [9]), refused)
@@ -235,9 +284,19 @@ def rule_refusals(group):
         group.same(model.joint_strip(rule, [], [], [1], [9], [], model.joint_inverse), refused + ([],))
 
 
+def elements(group):
+    """R-7: the figures are the same by every rule, since nothing is rounded."""
+    for what, col, row, x, answer in ELEMENTS:
+        call = run_forward if what == "forward" else run_inverse
+        for rule in model.RULES:
+            group.same(call(rule, (col, row), x), (answer, [9] * len(x)), (what, col, row, x))
+    sheet, answer = NO_ELEMENT
+    group.same(allowance(sheet), (answer, [9, 9]))
+
+
 def figure_h(group):
     group.same(model.encode([16384]), unhex("80 80 02"))
-    group.same(model.read(unhex("84 00"), [9]), ((14, 0, 0), [9]))
+    group.same(model.read(unhex("84 00"), [9]), ((14, 0, 0, 0), [9]))
 
 
 def worked_example(group):
@@ -249,7 +308,7 @@ def limits(group):
     draft = generate.longest_draft(random.Random(1))
     sheet = generate.numbers_of(draft)
     group.same((len(sheet), model.check(sheet)), (4386, OK))
-    group.same(model.check(sheet + [0]), (9, 0, 4386))
+    group.same(model.check(sheet + [0]), (9, 0, 4386, 0))
 
 
 # ---------------------------------------------------------------------------
@@ -295,6 +354,17 @@ def some_line(rng):
 
 def some_pair(rng):
     column, row = generate.ruled_pair(rng)
+    return (generate.numbers_of(column), generate.numbers_of(row))
+
+
+def crowd_line(rng, inverse=False):
+    """A line in which several numbers may be beyond the bound at one stage."""
+    return (generate.numbers_of(generate.crowd_line(rng, inverse)), None)
+
+
+def crowd_pair(rng, inverse=False):
+    """The same in two dimensions."""
+    column, row = generate.crowd_pair(rng, inverse)
     return (generate.numbers_of(column), generate.numbers_of(row))
 
 
@@ -375,21 +445,30 @@ def factor_starts(sheet):
 
 
 def cut_law(rng, rule, recipe, group):
-    """The whole run is the run of the first part, then of the second; a refusal
-    of the second part has the first part's count added to its stage."""
+    """The whole run is the run of the first part, then of the second."""
+    try_cut(rng, rule, recipe, some_input(rng, rule, recipe), group)
+
+
+def crowd_cut_law(rng, rule, recipe, group):
+    """The same where several numbers are beyond the bound at one stage."""
+    try_cut(rng, rule, recipe, generate.crowd_block(rng, block_length(recipe)), group)
+
+
+def try_cut(rng, rule, recipe, x, group):
+    """A refusal of the second part has the first part's count added to its
+    stage; its element is the whole run's."""
     col, row = recipe
     if col[1] < 2:
         return
     position = rng.randint(1, col[1] - 1)
     cut_col = cut_sheet(col, position)
     cut_row = (None, None) if row is None else cut_sheet(row, position)
-    x = some_input(rng, rule, recipe)
     answer, between = run_forward(rule, (cut_col[0], cut_row[0]), x)
     after = [9] * len(x)
     if answer == OK:
         answer, after = run_forward(rule, (cut_col[1], cut_row[1]), between)
         if answer[NUMBER] == 11:
-            answer = (11, 0, answer[PLACE] + position)
+            answer = (11, 0, answer[PLACE] + position, answer[ELEMENT])
     group.same((answer, after), run_forward(rule, recipe, x), (recipe, x))
 
 
@@ -398,9 +477,9 @@ def encoding_law(rng, group):
     sheet = generate.numbers_of(generate.some_draft(rng))
     data = model.encode(sheet)
     room = [0] * (len(data) + 3)
-    group.same(model.write(sheet, room), ((0, 0, len(data)), data + [0] * 3))
+    group.same(model.write(sheet, room), ((0, 0, len(data), 0), data + [0] * 3))
     room = [7] * (len(sheet) + 2)
-    group.same(model.read(data, room), ((0, 0, len(sheet)), sheet + [7] * 2))
+    group.same(model.read(data, room), ((0, 0, len(sheet), 0), sheet + [7] * 2))
 
 
 def decoding_law(rng, group):
@@ -414,10 +493,17 @@ def decoding_law(rng, group):
     group.same(model.encode(numbers), data)
 
 
-LAWS = [round_trip_law, trip_round_law, allowance_law, difference_law, cut_law]
+LAWS = [
+    (round_trip_law, some_line, some_pair),
+    (trip_round_law, some_line, some_pair),
+    (allowance_law, some_line, some_pair),
+    (difference_law, some_line, some_pair),
+    (cut_law, some_line, some_pair),
+    (crowd_cut_law, crowd_line, crowd_pair),
+]
 FIGURES = [
     figure_a, figure_b, figure_c, figure_d, figure_e, figure_f, figure_g, figure_h, request_2,
-    rule_halves, rule_runs, rule_drift, rule_allowances, rule_refusals, worked_example, limits,
+    rule_halves, rule_runs, rule_drift, rule_allowances, rule_refusals, elements, worked_example, limits,
 ]
 
 
@@ -442,10 +528,10 @@ def all_groups(seed, count):
         group = Group(figure.__name__)
         figure(group)
         yield group
-    for law in LAWS:
+    for law, line, pair in LAWS:
         for rule in model.RULES:
-            yield try_law(law, "line", some_line, rule, seed, count)
-            yield try_law(law, "joint", some_pair, rule, seed, count)
+            yield try_law(law, "line", line, rule, seed, count)
+            yield try_law(law, "joint", pair, rule, seed, count)
     for law in (encoding_law, decoding_law):
         yield try_code_law(law, seed, count)
 

@@ -155,8 +155,13 @@ def sheet_draft(rng, n, kinds, entry=None, sign=None):
     makers = ENTRY_MAKERS if n * len(kinds) <= 40 else LONG_ENTRY_MAKERS
     entry = entry or rng.choice(makers)
     sign = sign or rng.choice(SIGN_MAKERS)
-    draft = [("order", n), ("count", len(kinds))]
-    for kind in kinds:
+    return planned_draft(rng, n, [(kind, entry) for kind in kinds], sign)
+
+
+def planned_draft(rng, n, plan, sign):
+    """A valid sheet whose plan has for each factor its kind and its maker of entries."""
+    draft = [("order", n), ("count", len(plan))]
+    for kind, entry in plan:
         draft += factor_draft(rng, n, kind, entry, sign)
     return draft
 
@@ -487,6 +492,75 @@ def joint_block_to_edge(rng, rule, col, row, inverse):
         return model.flat(block)
 
     return block_to_edge(rng, a.order * b.order, back)
+
+
+# ---------------------------------------------------------------------------
+# Crowds: runs with several numbers beyond the bound at one stage, so that it
+# matters in which order they are looked at. Numbers at the bound pass quiet
+# factors and meet a pushing one.
+
+# How many of a block's numbers are tiny: these push the others by very little.
+TINY_SHARES = [0.15, 0.3, 0.6]
+BEYOND = [16777216, -16777216, 16777217, -16777217, I32_MAX, -I32_MAX, I32_MIN]
+
+# Of a line only kinds 2 and 3 can push more than one number.
+LINE_PUSHERS = [2, 2, 3, 3, 3, 4]
+JOINT_PUSHERS = [2, 2, 3, 3, 4, 4, 4]
+
+# Small, so that a row often is at the front, in the middle or at the end.
+LINE_ORDERS = [3, 3, 4, 4, 5, 6, 7, 8]
+JOINT_ORDERS = [1, 2, 2, 3, 3, 3, 4, 5]
+
+
+def quiet_entry(rng):
+    """0, or at times so little that it moves only what stands next to the bound."""
+    return rng.choice([-1, 1]) if chance(rng, 0.02) else 0
+
+
+def push_by_ones(rng):
+    return rng.choice([-4096, 0, 4096, 4096])
+
+
+PUSHING_ENTRIES = [push_by_ones, push_by_ones, odd_half_entry, sparse_entry, uniform_entry]
+
+
+def crowd_plan(rng, back, pushers):
+    """Quiet factors, the pushing one, any factors: in the order of the run."""
+    quiet, more = rng.choice([0, 0, 1, 2, rng.randint(0, 5)]), rng.choice([0, 0, 1, 2])
+    plan = [(kind, quiet_entry) for kind in some_kinds(rng, quiet)]
+    plan.append((rng.choice(pushers), rng.choice(PUSHING_ENTRIES)))
+    plan += [(kind, mixed_entry) for kind in some_kinds(rng, more)]
+    return plan[::-1] if back else plan
+
+
+def crowd_draft(rng, orders, plan):
+    """A sheet of a crowded run, rarely of the largest order."""
+    order = 16 if chance(rng, 0.03) else rng.choice(orders)
+    return planned_draft(rng, order, plan, rng.choice(SIGN_MAKERS))
+
+
+def crowd_line(rng, back):
+    return crowd_draft(rng, LINE_ORDERS, crowd_plan(rng, back, LINE_PUSHERS))
+
+
+def crowd_pair(rng, back):
+    plan = crowd_plan(rng, back, JOINT_PUSHERS)
+    column, row = [crowd_draft(rng, JOINT_ORDERS, plan) for _ in range(2)]
+    return column, row
+
+
+def at_bound(rng, sign):
+    return sign(rng) * (16777215 - rng.choice([0, 0, 0, 0, 1, 2]))
+
+
+def crowd_block(rng, length):
+    """Numbers at the bound and tiny ones; at times several are beyond already."""
+    share, sign = rng.choice(TINY_SHARES), rng.choice(SIGN_MAKERS)
+    block = [tiny(rng) if chance(rng, share) else at_bound(rng, sign) for _ in range(length)]
+    if chance(rng, 0.1):
+        for element in rng.sample(range(length), min(length, rng.randint(2, 4))):
+            block[element] = rng.choice(BEYOND)
+    return block
 
 
 # ---------------------------------------------------------------------------

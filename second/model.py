@@ -2,8 +2,8 @@
 
 A direct transcription, in the document's order and words, with numbers
 without bounds. It shares no code with the product that it tests. Every call
-gives its answer, the three numbers (number, side, place); a call that is lent
-memory gives the answer and that memory as it is afterwards.
+gives its answer, the four numbers (number, side, place, element); a call that
+is lent memory gives the answer and that memory as it is afterwards.
 """
 
 from collections import namedtuple
@@ -33,16 +33,17 @@ SHARES = {NEAREST: 2048, FLOOR: 4096, EVEN: 2048}
 
 
 class Refused(Exception):
-    """The first fault found, with its number, side and place."""
+    """The first fault found, with its number, side and place. Request R-7: an
+    element for refusal 11; "it is 0 in every other answer"."""
 
-    def __init__(self, number, place, side=0):
-        super().__init__(number, side, place)
-        self.answer = (number, side, place)
+    def __init__(self, number, place, side=0, element=0):
+        super().__init__(number, side, place, element)
+        self.answer = (number, side, place, element)
 
 
 def accepted(place=0):
     """"Accepted: 0, 0, and the place is 0, or the count written"."""
-    return (0, 0, place)
+    return (0, 0, place, 0)
 
 
 # ---------------------------------------------------------------------------
@@ -208,36 +209,50 @@ def undo_line(rule, factor, y):
 
 
 def line_recovery(factor, n):
-    """"From the top for kind 2, from the bottom for kind 3"; kind 4 row r last."""
-    if factor.kind == LOWER:
+    """"From the top for kind 2, from the bottom for kind 3"; kind 4 row r last.
+    A permutation undone has no such order, and none can be seen: no number
+    changes, so none passes the bound."""
+    if factor.kind in (PERMUTATION, LOWER):
         return list(range(n))
     if factor.kind == UPPER:
         return list(reversed(range(n)))
     return [k for k in range(n) if k != factor.row] + [factor.row]
 
 
-def check_bound(numbers, stage):
-    """A run is refused at the first stage with a number beyond the bound."""
-    for number in numbers:
-        if not -SAMPLE_LIMIT <= number <= SAMPLE_LIMIT:
-            raise Refused(11, stage)
+def is_beyond(number):
+    return not -SAMPLE_LIMIT <= number <= SAMPLE_LIMIT
+
+
+def reading_order(numbers):
+    """Row by row, which is how the numbers of a block lie."""
+    return range(len(numbers))
+
+
+def check_bound(numbers, stage, order):
+    """A run is refused at the first stage with a number beyond the bound. The
+    element is the first such number of the whole stage in the order given."""
+    for element in order:
+        if is_beyond(numbers[element]):
+            raise Refused(11, stage, element=element)
 
 
 def line_stages_forward(rule, recipe, x):
-    """Stage 0 is the input, stage s the vector after s factors."""
-    check_bound(x, 0)
+    """Stage 0 is the input, stage s the vector after s factors. R-7: "in a
+    forward run and at stage 0 the first offending element in reading order"."""
+    check_bound(x, 0, reading_order(x))
     for stage, factor in enumerate(recipe.factors, 1):
         x = apply_line(rule, factor, x)
-        check_bound(x, stage)
+        check_bound(x, stage, reading_order(x))
     return x
 
 
 def line_stages_inverse(rule, recipe, y):
-    """Stage s is the vector after s factors undone, the last factor first."""
-    check_bound(y, 0)
+    """Stage s is the vector after s factors undone, the last factor first. R-7:
+    "in an inverse run the first in 01's recovery order for that factor"."""
+    check_bound(y, 0, reading_order(y))
     for stage, factor in enumerate(reversed(recipe.factors), 1):
         y = undo_line(rule, factor, y)
-        check_bound(y, stage)
+        check_bound(y, stage, line_recovery(factor, recipe.order))
     return y
 
 
@@ -300,9 +315,10 @@ def undo_joint(rule, a, b, y):
 
 def joint_recovery(a, b, n1, n2):
     """Kind 2 row by row from (0,0); kind 3 the reverse; kind 4: elements in
-    neither, row r from the left, column q from the top, (r,q) last."""
+    neither, row r from the left, column q from the top, (r,q) last. For a
+    permutation any order will do, as for a line."""
     row_by_row = [(i, j) for i in range(n1) for j in range(n2)]
-    if a.kind == LOWER:
+    if a.kind in (PERMUTATION, LOWER):
         return row_by_row
     if a.kind == UPPER:
         return list(reversed(row_by_row))
@@ -313,22 +329,27 @@ def joint_recovery(a, b, n1, n2):
     return in_neither + row_r + column_q + [(r, q)]
 
 
+def joint_elements(a, b, n1, n2):
+    """The recovery order by element number, "counted row by row"."""
+    return [i * n2 + j for i, j in joint_recovery(a, b, n1, n2)]
+
+
 def joint_stages_forward(rule, a, b, x):
     """The stages of a joint run, both recipes' factors in step."""
-    check_bound(flat(x), 0)
+    check_bound(flat(x), 0, reading_order(flat(x)))
     for stage, (fa, fb) in enumerate(zip(a.factors, b.factors), 1):
         x = apply_joint(rule, fa, fb, x)
-        check_bound(flat(x), stage)
+        check_bound(flat(x), stage, reading_order(flat(x)))
     return x
 
 
 def joint_stages_inverse(rule, a, b, y):
     """The stages of a joint inverse run, the last factors first."""
-    check_bound(flat(y), 0)
+    check_bound(flat(y), 0, reading_order(flat(y)))
     pairs = list(zip(a.factors, b.factors))
     for stage, (fa, fb) in enumerate(reversed(pairs), 1):
         y = undo_joint(rule, fa, fb, y)
-        check_bound(flat(y), stage)
+        check_bound(flat(y), stage, joint_elements(fa, fb, a.order, b.order))
     return y
 
 
@@ -514,7 +535,7 @@ def rest(col, row):
     """"The rest of the faulty sheet, from the place on": which slice it is a
     part of, 0 column or 1 row, and where it starts. "With no fault in 1 to 9,
     the empty end of the column sheet"."""
-    number, side, place = check_pair(col, row)
+    number, side, place, _ = check_pair(col, row)
     if 1 <= number <= 9:
         return (side, place)
     return (0, len(col))
@@ -709,8 +730,9 @@ def first_printing(room):
 
 def result_line(word, answer, numbers):
     """One printed line: the numbers, or `refused`, number, side, place."""
-    if answer[0] != 0:
-        return " ".join(["refused"] + [str(part) for part in answer]) + "\n"
+    number, side, place, _ = answer
+    if number != 0:
+        return f"refused {number} {side} {place}\n"
     return " ".join([word] + [str(number) for number in numbers]) + "\n"
 
 

@@ -1,11 +1,11 @@
 -- THE ANSWER OF A CALL in the turns that the code takes: the sheets, the lengths, then the run itself.
 use mathlib.Core.Bool.{cond}
 use mathlib.Core.List.{List}
-use mathlib.Core.Path.{_≡_, sym, ap, _∙_}
-use Prim.Native.Nat.{ℕ, _≤_, _<_}
-use native.Mathlib.Decide.{ℕ-discrete, decLe}
+use mathlib.Core.Path.{_≡_, refl, sym, ap, _∙_}
+use Prim.Native.Nat.{ℕ}
+use native.Mathlib.Decide.{ℕ-discrete}
 use native.Mathlib.Omega.{arith}
-use borrow.Author.Tests.{eq-eqb, ne-eqb, le-leb, lt-leb}
+use borrow.Author.Tests.{eq-eqb, ne-eqb}
 use lib.Dec.{eqb}
 use lib.IntN.{ℤ}
 use lib.ListN.{length}
@@ -14,10 +14,9 @@ use Rattle.rules.specs.declared.Rule.{Rule}
 use Rattle.rules.specs.Stages.{runForward, runInverse}
 use Rattle.rules.specs.Answers.{accepted, refused, _or-else_}
 use Rattle.rules.specs.Calls.{Gives, reply, Plan, sized, ranAnswer, ranMemory, runReply, forwardCall, inverseCall, allowanceCall}
-use Rattle.rules.specs.Calls.{ruleOf, ruleChecked, ruled}
+use Rattle.rules.specs.Calls.{ruleOf, ruleChecked, under, ruled}
+use Rattle.laws.specs.Accepted.{both-fine}
 use Rattle.laws.specs.AnswersInTurn.{answer-stops, answer-passes, in-turn, reply-stops, reply-passes, ranReply}
-use Rattle.laws.specs.Plans.{under-fine}
-use Rattle.laws.specs.Promises.{forward-none, inverse-none, allowance-none}
 use Rattle.factor.specs.declared.run.Task.{Task}
 use Rattle.factor.specs.declared.run.Task.the-variants.{Forward, Inverse, Allowance}
 use Rattle.factor.specs.declared.run.Run.{Run}
@@ -79,53 +78,67 @@ in-turns Forward rule p x y h = rw (sizes (p .size) x y (ranAnswer 11 (runForwar
 in-turns Inverse rule p x y h = rw (sizes (p .size) x y (ranAnswer 11 (runInverse rule (p .size) (p .stages) x)))
 in-turns Allowance rule p x y h = rw (eq-eqb (length x) 0 h)
 
-module _ (r : Run) (p : Plan) (x y : List ℤ) (none : NoneLent (r .task) x) where
-  -- the sheets refuse
-  pub sheets-refuse : {a : Answer} → a ≡ p .sheets → (a .number ≡ 0 → ⊥) → Gives a y (callOf r p x y)
-  sheets-refuse e h = rw (in-turns (r .task) (r .rule) p x y none) (reply-stops (p .sheets) _ _ y e h)
+-- all checks of a call by the number k of a rule, over slices of so many numbers: 16, the sheets, the lengths
+unfoldable pub checksOf : ℕ → Task → Plan → ℕ → ℕ → Answer
+checksOf k task p x y = ruleChecked k or-else (p .sheets or-else lengthsOf task (p .size) x y)
 
-  module _ {a : Answer} (e : a ≡ p .sheets) (fine : a .number ≡ 0) {l : Answer}
-      (d : l ≡ lengthsOf (r .task) (p .size) (length x) (length y)) where
-    -- the lengths refuse
-    pub lengths-refuse : (l .number ≡ 0 → ⊥) → Gives l y (callOf r p x y)
-    lengths-refuse h =
-        rw (
-          in-turns (r .task) (r .rule) p x y none,
-          reply-passes (p .sheets)
-              (lengthsOf (r .task) (p .size) (length x) (length y) or-else _) _ y e fine,
-        )
-        (reply-stops (lengthsOf (r .task) (p .size) (length x) (length y)) _ _ y d h)
+-- in the turns in which the code meets them: a is what the check of the number answered, b that of the sheets
+module _ (k : ℕ) (task : Task) (p : Plan) (x y : ℕ) {a : Answer} (e : a ≡ ruleChecked k) where
+  pub rule-stops : (a .number ≡ 0 → ⊥) → a ≡ checksOf k task p x y
+  unfolding checksOf
+  rule-stops h = e ∙ sym (answer-stops (ruleChecked k) _ (λ z. h (ap (λ (q : Answer). q .number) e ∙ z)))
 
-    -- nothing is left but the run
-    pub run-is-left : l .number ≡ 0 → callOf r p x y ≡ ranReply (numberOf (r .task)) (ran r (p .size) (p .stages) x) y
-    run-is-left h =
-        in-turns (r .task) (r .rule) p x y none
-        ∙ reply-passes (p .sheets) (lengthsOf (r .task) (p .size) (length x) (length y) or-else _) _ y e fine
-        ∙ reply-passes (lengthsOf (r .task) (p .size) (length x) (length y)) _ _ y d h
+  rule-goes : a .number ≡ 0 → checksOf k task p x y ≡ p .sheets or-else lengthsOf task (p .size) x y
+  unfolding checksOf
+  rule-goes h = answer-passes (ruleChecked k) _ (ap (λ (q : Answer). q .number) (sym e) ∙ h)
 
--- ---- a call by the number of a rule: 16 comes first, then the call is the one of that rule
-pub ruled-none : (task : Task) (k : ℕ) (p : Plan) (x y : List ℤ) → 2 < k →
-    Gives (refused 16 0 0) y (ruled k (callBy task) p x y)
-unfolding callBy
-ruled-none Forward k p x y h = forward-none k p h x y
-ruled-none Inverse k p x y h = inverse-none k p h x y
-ruled-none Allowance k p x y h = allowance-none k p h y
+  module _ (fine : a .number ≡ 0) {b : Answer} (d : b ≡ p .sheets) where
+    pub sheets-stop : (b .number ≡ 0 → ⊥) → b ≡ checksOf k task p x y
+    sheets-stop h =
+        d ∙ sym (answer-stops (p .sheets) _ (λ z. h (ap (λ (q : Answer). q .number) d ∙ z))) ∙ sym (rule-goes fine)
 
-pub ruled-fine : (task : Task) (k : ℕ) (p : Plan) → ruleChecked k .number ≡ 0 →
-    ruled k (callBy task) p ≡ callBy task (ruleOf k) p
-ruled-fine task k p h = ap (callBy task (ruleOf k)) (under-fine k p h)
+    pub lengths-left : {l : Answer} → b .number ≡ 0 → l ≡ lengthsOf task (p .size) x y → l ≡ checksOf k task p x y
+    lengths-left h f =
+        f ∙ sym (answer-passes (p .sheets) _ (ap (λ (q : Answer). q .number) (sym d) ∙ h)) ∙ sym (rule-goes fine)
 
--- as the code meets them: a is what the check of the number answered
-module _ (task : Task) (k : ℕ) (p : Plan) (x y : List ℤ) {a : Answer} (e : a ≡ ruleChecked k) where
-  pub rule-refuses : (a .number ≡ 0 → ⊥) → Gives a y (ruled k (callBy task) p x y)
-  rule-refuses h = split (decLe k 2)
-    where
-      split : Dec (k ≤ 2) → Gives a y (ruled k (callBy task) p x y)
-      split (yes l) = absurd (h (rw (e, le-leb k 2 l)))
-      split (no l) =
-          let none : ruleChecked k ≡ refused 16 0 0 = rw (lt-leb k 2 (omega arith)) in
-          rw (e ∙ none) (ruled-none task k p x y (omega arith))
+-- a call after its checks
+module _ (k : ℕ) (task : Task) (p : Plan) (x y : List ℤ) (none : NoneLent task x) {a : Answer}
+    (e : a ≡ checksOf k task p (length x) (length y)) where
+  turns : ruled k (callBy task) p x y
+      ≡ reply (checksOf k task p (length x) (length y)
+      or-else ranAnswer (numberOf task) (ranBy task (ruleOf k) (p .size) (p .stages) x))
+      (ranMemory (ranBy task (ruleOf k) (p .size) (p .stages) x) y) y
+  unfolding checksOf
+  turns =
+      let lengths = lengthsOf task (p .size) (length x) (length y) in
+      let last = ranAnswer (numberOf task) (ranBy task (ruleOf k) (p .size) (p .stages) x) in
+      in-turns task (ruleOf k) (under k p) x y none
+      ∙ ap (λ (q : Answer). reply q (ranMemory (ranBy task (ruleOf k) (p .size) (p .stages) x) y) y)
+      (in-turn (ruleChecked k or-else p .sheets) lengths last
+      ∙ ap (λ (q : Answer). q or-else last) (sym (in-turn (ruleChecked k) (p .sheets) lengths)))
 
-  pub rule-passes : {b : Answer} {m : List ℤ} → a .number ≡ 0 → Gives b m (callBy task (ruleOf k) p x y) →
-      Gives b m (ruled k (callBy task) p x y)
-  rule-passes h g = rw (ruled-fine task k p (ap (λ (z : Answer). z .number) (sym e) ∙ h)) g
+  pub checks-refuse : (a .number ≡ 0 → ⊥) → Gives a y (ruled k (callBy task) p x y)
+  checks-refuse h = rw turns (reply-stops (checksOf k task p (length x) (length y)) _ _ y e h)
+
+  -- nothing is left but the run
+  pub run-is-left : a .number ≡ 0 →
+      ruled k (callBy task) p x y ≡ ranReply (numberOf task) (ranBy task (ruleOf k) (p .size) (p .stages) x) y
+  run-is-left h = turns ∙ reply-passes (checksOf k task p (length x) (length y)) _ _ y e h
+
+  pub checks-fine : a .number ≡ 0 →
+      (p .sheets .number ≡ 0) × (length x ≡ inputsOf task (p .size)) × (length y ≡ p .size)
+  unfolding checksOf
+  checks-fine h =
+      let z = both-fine (ruleChecked k) _ (ap (λ (q : Answer). q .number) (sym e) ∙ h) in
+      let w = both-fine (p .sheets) _ (z .1) in
+      let l = lengths-fine task (p .size) (length x) (length y) (w .1) in
+      (w .0, l .0, l .1)
+
+-- the single call of a block whose sheets and lengths are right is its run
+pub block-is-run :
+    (r : Run) (p : Plan) (x y : List ℤ) → NoneLent (r .task) x → p .sheets .number ≡ 0 →
+    lengthsOf (r .task) (p .size) (length x) (length y) .number ≡ 0 →
+    callOf r p x y ≡ ranReply (numberOf (r .task)) (ran r (p .size) (p .stages) x) y
+block-is-run r p x y none s l =
+    in-turns (r .task) (r .rule) p x y none ∙ reply-passes (p .sheets) _ _ y refl s
+    ∙ reply-passes (lengthsOf (r .task) (p .size) (length x) (length y)) _ _ y refl l

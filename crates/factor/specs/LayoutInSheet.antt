@@ -182,3 +182,13 @@ module _ {s : List ℤ} {n i : ℕ} (h : FactorRead s n i) {f : Layout} {b : Boo
 
   pub kind-no : b ≡ false → kindOf (count s i) ≢ Permutation
   kind-no y = move-no (kindOf (count s i)) (sym told ∙ y)
+
+-- ---- what a stage of a rectangle asks: a factor of each checked sheet, of one kind
+pub record Paired (c r : List ℤ) (n1 n2 i j : ℕ) : Type 0 where
+  pub some1 : 1 ≤ n1
+  pub most1 : n1 ≤ mostOrder
+  pub column : FactorRead c n1 i
+  pub some2 : 1 ≤ n2
+  pub most2 : n2 ≤ mostOrder
+  pub row : FactorRead r n2 j
+  pub match : kindOf (count c i) ≡ kindOf (count r j)

@@ -1,5 +1,5 @@
 -- A BLOCK IN ITS ROOM: its numbers at the front of an array, 0 behind them, and the reply to a run over that array.
-use mathlib.Core.Bool.{Bool, true, false, cond}
+use mathlib.Core.Bool.{true}
 use mathlib.Core.List.{List, _++_}
 use mathlib.Core.Path.{_≡_, refl, sym, ap, _∙_}
 use Prim.Native.Nat.{ℕ, zero, suc, _+_, _-_, _≤_, _<_}
@@ -12,56 +12,26 @@ use lib.Seq.{getD-append-add, ext-getD}
 use Rattle.whole.specs.Diff.{Within}
 use Rattle.rules.specs.Numbers.{at}
 use Rattle.rules.specs.Stages.{Ran, done, beyond, fill, inside}
-use Rattle.rules.specs.Answers.{accepted, refused}
-use Rattle.rules.specs.Calls.{Reply, reply, ranAnswer, ranMemory}
+use Rattle.rules.specs.declared.Answer.{Answer}
+use Rattle.rules.specs.Answers.{accepted, refusedAt}
+use Rattle.rules.specs.Calls.{Reply, Gives, reply, ranAnswer, ranMemory}
 use Rattle.rules.specs.Laws.Lists.{length-fill, fill-at, fill-past, inside-at, same-list}
 use Rattle.rules.specs.Laws.Padding.{paddedRun}
 use Rattle.laws.specs.AnswersInTurn.{ranReply}
 use Rattle.factor.specs.SumBounds.{Bounded}
-use Rattle.factor.specs.declared.run.Outcome.{Outcome}
 
 -- ---- the end of a run
--- whether a run was accepted, and the stage that is refused
-unfoldable pub ranOk : Ran → Bool
-ranOk (done v) = true
-ranOk (beyond s) = false
+-- the reply to a run over a block as long as the output or longer
+unfoldable pub ended : Ran → ℕ → List ℤ → Reply ℤ
+ended (done v) number y = record { answer = accepted; memory = fill (length y) (at v) y }
+ended (beyond s e) number y = record { answer = refusedAt number 0 s e; memory = y }
 
-unfoldable pub ranStage : Ran → ℕ
-ranStage (done v) = 0
-ranStage (beyond s) = s
-
--- the reply, as the code makes it of a block as long as the output or longer
-unfoldable pub finished : Outcome → List ℤ → ℕ → List ℤ → Reply ℤ
-finished end block number y =
-    cond (end .ok) (record { answer = accepted; memory = fill (length y) (at block) y })
-    (record { answer = refused number 0 (end .stage); memory = y })
-
--- the outcome of the document's run
-abbrev pub outcomeOf : Ran → Outcome
-outcomeOf ran = record { ok = ranOk ran; stage = ranStage ran }
-
--- how the code ends a run: its outcome, and the block of an accepted one
-pub record RunEnded (ran : Ran) (end : Outcome) (block : List ℤ) : Type 0 where
-  pub tells : end .ok ≡ ranOk ran
-  pub stops : end .stage ≡ ranStage ran
-  pub takes : end .ok ≡ true → ran ≡ done block
-
-pub run-ended-done : {ran : Ran} {v : List ℤ} → ran ≡ done v → RunEnded ran (record { ok = true; stage = 0 }) v
-unfolding ranOk ranStage
-run-ended-done e = record { tells = rw e; stops = rw e; takes = λ t. e }
-
-pub run-ended-stop : {ran : Ran} {s : ℕ} {v : List ℤ} → ran ≡ beyond s → RunEnded ran (record { ok = false; stage = s }) v
-unfolding ranOk ranStage
-run-ended-stop e = record { tells = rw e; stops = rw e; takes = λ t. let z : _≡_ {A = ℕ} 0 1 = cc in absurd (omega arith) }
-
--- the block of a refused run is not looked at
-pub run-ended-reply :
-    (ran : Ran) {end : Outcome} {block : List ℤ} → RunEnded ran end block → (b : List ℤ) (number : ℕ) (y : List ℤ) →
-    finished end block number y ≡ finished (outcomeOf ran) (ranMemory ran b) number y
-unfolding finished ranOk ranStage ranMemory
-run-ended-reply (done v) {block} h b number y =
-    let e : v ≡ block = ap (λ (r : Ran). ranMemory r b) (h .takes (h .tells)) in rw (h .tells, e)
-run-ended-reply (beyond s) h b number y = rw (h .tells, h .stops)
+-- a run that is done, as the code ends it
+pub ended-done :
+    {ran : Ran} {a : Answer} (number : ℕ) {v z : List ℤ} (y : List ℤ) → ran ≡ done v → a ≡ accepted →
+    z ≡ fill (length y) (at v) y → Gives a z (ended ran number y)
+unfolding ended
+ended-done number y h e w = rw h (e, w)
 
 -- the numbers at the front of a block, written over a slice of their length
 store-is : (v p y : List ℤ) → length v ≡ length y → fill (length y) (at (v ++ p)) y ≡ v
@@ -72,12 +42,12 @@ store-is v p y l =
     fill-at (length y) (at (v ++ p)) y k q (omega arith) ∙ List·getD-append v p (pos 0) k (omega arith))
 
 -- the run over a block with p behind it ends as the run over the block
-pub finished-is :
-    (k : ℕ) (ran : Ran) (p b y : List ℤ) → ((v : List ℤ) → ran ≡ done v → length v ≡ length y) →
-    finished (outcomeOf (paddedRun ran p)) (ranMemory (paddedRun ran p) b) (suc k) y ≡ ranReply (suc k) ran y
-unfolding finished ranOk ranStage paddedRun reply ranAnswer ranMemory
-finished-is k (done v) p b y h = rw (store-is v p y (h v refl))
-finished-is k (beyond s) p b y h = rw (ne-eqb (suc k) 0 (λ e. omega arith))
+pub ended-is :
+    (k : ℕ) (ran : Ran) (p y : List ℤ) → ((v : List ℤ) → ran ≡ done v → length v ≡ length y) →
+    ended (paddedRun ran p) (suc k) y ≡ ranReply (suc k) ran y
+unfolding ended paddedRun reply ranAnswer ranMemory
+ended-is k (done v) p y h = rw (store-is v p y (h v refl))
+ended-is k (beyond s e) p y h = rw (ne-eqb (suc k) 0 (λ z. omega arith))
 
 at-zeros : (n k : ℕ) → at (replicate n (pos 0)) k ≡ pos 0
 at-zeros zero k = refl

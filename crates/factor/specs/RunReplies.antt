@@ -1,7 +1,7 @@
 -- HOW A RUN ENDS: over good stages, the run of the block in its room, and what is written, is the run of the lent numbers.
-use mathlib.Core.Bool.{true, false}
+use mathlib.Core.Bool.{Bool, true, false}
 use mathlib.Core.List.{List, [], _∷_, _++_, reverse}
-use mathlib.Core.Path.{_≡_, refl, sym, _∙_}
+use mathlib.Core.Path.{_≡_, refl, sym, ap, _∙_}
 use Prim.Native.Nat.{ℕ, _+_, _-_, _≤_}
 use native.Mathlib.Omega.{arith}
 use lib.IntN.{ℤ, pos}
@@ -9,8 +9,8 @@ use lib.ListN.{length, replicate, replicate-append-replicate}
 use Rattle.rules.specs.declared.Answer.{Answer}
 use Rattle.rules.specs.declared.Rule.{Rule}
 use Rattle.rules.specs.Numbers.{bound}
-use Rattle.rules.specs.Stages.{Stage, Ran, inside, beyond, runForward, runInverse}
-use Rattle.rules.specs.Answers.{refused}
+use Rattle.rules.specs.Stages.{Stage, Ran, inside, beyond, firstRead, runForward, runInverse}
+use Rattle.rules.specs.Answers.{refusedAt}
 use Rattle.rules.specs.Calls.{Reply, Gives, reply, ranAnswer, ranMemory}
 use Rattle.rules.specs.GoodStages.{AllGood}
 use Rattle.rules.specs.Laws.Padding.{forward-padded, inverse-padded, allowance-padded}
@@ -21,13 +21,31 @@ use Rattle.factor.specs.declared.run.Task.{Task}
 use Rattle.factor.specs.declared.run.Task.the-variants.{Forward, Inverse, Allowance}
 use Rattle.factor.specs.declared.run.Run.{Run}
 use Rattle.factor.specs.SumBounds.{Bounded, bounded-le}
-use Rattle.factor.specs.Tasks.{limitOf, inputsOf, numberOf, inOrder, stageBy, runBy, ranBy, ran}
-use Rattle.factor.specs.PaddedBlocks.{outcomeOf, finished, finished-is, padding, paddedBlock, padded-bounded}
+use Rattle.factor.specs.Tasks.{limitOf, inputsOf, numberOf, inOrder, stageBy, nameFirst, nameAfter, runBy}
+use Rattle.factor.specs.Tasks.{ranBy, ran}
+use Rattle.factor.specs.PaddedBlocks.{ended, ended-is, padding, paddedBlock, padded-bounded}
 
--- the reply to a run over a block b in its room
-abbrev pub ended : Ran → List ℤ → ℕ → List ℤ → Reply ℤ
-ended ran b number y = finished (outcomeOf ran) (ranMemory ran b) number y
+-- ---- a reply whose element is left out where it is not asked for
+pub record GivesAsked (named : Bool) (a : Answer) (m : List ℤ) (q : Reply ℤ) : Type 0 where
+  pub number : a .number ≡ q .answer .number
+  pub memory : m ≡ q .memory
+  pub whole : named ≡ true → a ≡ q .answer
 
+module _ {a : Answer} {m : List ℤ} {q : Reply ℤ} where
+  pub given-all : {named : Bool} → Gives a m q → GivesAsked named a m q
+  given-all g = record { number = ap (λ (z : Answer). z .number) (g .0); memory = g .1; whole = λ e. g .0 }
+
+  pub given-asked : GivesAsked true a m q → Gives a m q
+  given-asked g = (g .whole refl, g .memory)
+
+-- a run that is refused
+pub ended-asked :
+    {named : Bool} {ran : Ran} {a : Answer} (number : ℕ) {s k : ℕ} (y : List ℤ) → ran ≡ beyond s k →
+    (a .number ≡ number) × (named ≡ true → a ≡ refusedAt number 0 s k) → GivesAsked named a y (ended ran number y)
+unfolding ended
+ended-asked number y h e = rw h (record { number = e .0; memory = refl; whole = e .1 })
+
+-- ---- the run of the block in its room
 none-lent : (x : List ℤ) → length x ≡ 0 → x ≡ []
 none-lent [] e = refl
 none-lent (z ∷ x) e = absurd (omega arith)
@@ -36,20 +54,18 @@ module _ (room : ℕ) {N : ℕ} {ss : List Stage} (good : AllGood N ss) (x y : L
   -- the task apart from its record, so that it can be told by cases
   ends : (task : Task) (rule : Rule) → let r : Run = record { task = task; rule = rule } in length x ≡ inputsOf task N →
       N ≤ room →
-      ended (runBy r N ss (paddedBlock room x)) (paddedBlock room x) (numberOf task) y ≡ ranReply (numberOf task)
+      ended (runBy r N ss (paddedBlock room x)) (numberOf task) y ≡ ranReply (numberOf task)
       (ranBy task rule N ss x) y
-  unfolding paddedBlock limitOf stageBy inOrder numberOf inputsOf ranBy runForward runInverse
+  unfolding paddedBlock limitOf stageBy nameFirst nameAfter inOrder numberOf inputsOf ranBy runForward runInverse
   ends Forward rule lx few =
       rw (forward-padded rule (padding room (length x)) good x (omega arith))
-      (finished-is 10 _ (padding room (length x)) (x ++ padding room (length x)) y
-      (λ v e. forward-length rule N ss x v e ∙ lx ∙ sym ly))
+      (ended-is 10 _ (padding room (length x)) y (λ v e. forward-length rule N ss x v e ∙ lx ∙ sym ly))
   ends Inverse rule lx few =
       rw (inverse-padded rule (padding room (length x)) good x (omega arith))
-      (finished-is 10 _ (padding room (length x)) (x ++ padding room (length x)) y
-      (λ v e. inverse-length rule N ss x v e ∙ lx ∙ sym ly))
+      (ended-is 10 _ (padding room (length x)) y (λ v e. inverse-length rule N ss x v e ∙ lx ∙ sym ly))
   ends Allowance rule lx few =
       rw (from-zero, allowance-padded rule (padding room N) good)
-      (finished-is 12 _ (padding room N) _ y (λ v e. allowance-length rule N ss v e ∙ sym ly))
+      (ended-is 12 _ (padding room N) y (λ v e. allowance-length rule N ss v e ∙ sym ly))
     where
       -- allowances start at 0
       zeros : replicate (room - 0) (pos 0) ≡ replicate N (pos 0) ++ padding room N
@@ -59,7 +75,7 @@ module _ (room : ℕ) {N : ℕ} {ss : List Stage} (good : AllGood N ss) (x y : L
       from-zero = rw (none-lent x lx) zeros
 
   pub run-ends : (r : Run) → length x ≡ inputsOf (r .task) N → N ≤ room →
-      ended (runBy r N ss (paddedBlock room x)) (paddedBlock room x) (numberOf (r .task)) y ≡ ranReply (numberOf (r .task))
+      ended (runBy r N ss (paddedBlock room x)) (numberOf (r .task)) y ≡ ranReply (numberOf (r .task))
       (ran r N ss x) y
   run-ends r lx few = ends (r .task) (r .rule) lx few
 
@@ -73,16 +89,17 @@ start-bounded room Allowance x h = bounded-le (omega arith) (padded-bounded room
 
 -- stage 0: a block with a number beyond the bound
 module _ (N : ℕ) (ss : List Stage) (x y : List ℤ) (out : inside bound (length x) x ≡ false) {a : Answer}
-    (e : a ≡ refused 11 0 0) where
-  replies : {ran : Ran} → ran ≡ beyond 0 → Gives a y (ranReply 11 ran y)
+    (e : a ≡ refusedAt 11 0 0 (firstRead (length x) x)) where
+  replies : {ran : Ran} → length x ≡ N → ran ≡ beyond 0 (firstRead N x) → Gives a y (ranReply 11 ran y)
   unfolding reply ranAnswer ranMemory
-  replies h = rw (h, e) (refl, refl)
+  replies l h = rw (h, e, l) (refl, refl)
 
   out-by : (task : Task) (rule : Rule) → length x ≡ inputsOf task N →
       Gives a y (ranReply (numberOf task) (ranBy task rule N ss x) y)
   unfolding inputsOf numberOf ranBy runForward runInverse inside
-  out-by Forward rule lx = replies (loop-start _ _ ss x ∙ loop-refused _ _ 0 ss x (rw lx at out))
-  out-by Inverse rule lx = replies (loop-start _ _ (reverse ss) x ∙ loop-refused _ _ 0 (reverse ss) x (rw lx at out))
+  out-by Forward rule lx = replies lx (loop-start _ _ _ _ ss x ∙ loop-refused _ _ _ _ 0 ss x (rw lx at out))
+  out-by Inverse rule lx =
+      replies lx (loop-start _ _ _ _ (reverse ss) x ∙ loop-refused _ _ _ _ 0 (reverse ss) x (rw lx at out))
   out-by Allowance rule lx = let z : true ≡ false = rw lx at out in let w : _≡_ {A = ℕ} 0 1 = cc in absurd (omega arith)
 
   pub run-out : (r : Run) → length x ≡ inputsOf (r .task) N → Gives a y (ranReply (numberOf (r .task)) (ran r N ss x) y)

@@ -6,7 +6,8 @@ use native.Mathlib.Omega.{arith}
 use lib.IntN.{ℤ}
 use Rattle.rules.specs.declared.Rule.{Rule}
 use Rattle.rules.specs.Numbers.{bound, mostAllowance}
-use Rattle.rules.specs.Stages.{Stage, Ran, forward, undo, allow, inside, run, runForward, runInverse, runAllowance}
+use Rattle.rules.specs.Stages.{Stage, Ran, forward, undo, allow, inside, firstRead, firstRecovered, run}
+use Rattle.rules.specs.Stages.{runForward, runInverse, runAllowance}
 use Rattle.rules.specs.Calls.{Reply, Plan, ruleOf, forwardCall, inverseCall, allowanceCall}
 use Rattle.factor.specs.declared.run.Task.{Task}
 use Rattle.factor.specs.declared.run.Task.the-variants.{Forward, Inverse, Allowance}
@@ -55,12 +56,24 @@ stageBy Forward rule n stage v = forward rule n stage v
 stageBy Inverse rule n stage v = undo rule n stage v
 stageBy Allowance rule n stage v = allow rule n stage v
 
+-- the element that is named where the numbers before the first stage are refused, and where those after a stage are
+unfoldable pub nameFirst : Task → ℕ → List ℤ → ℕ
+nameFirst Forward n v = firstRead n v
+nameFirst Inverse n v = firstRead n v
+nameFirst Allowance n v = 0
+
+unfoldable pub nameAfter : Task → ℕ → Stage → List ℤ → ℕ
+nameAfter Forward n stage v = firstRead n v
+nameAfter Inverse n stage v = firstRecovered n stage v
+nameAfter Allowance n stage v = 0
+
 abbrev pub takenBy : Run → ℕ → Stage → List ℤ → List ℤ
 takenBy r n stage v = stageBy (r .task) (r .rule) n stage v
 
 -- all stages, over the block as the code holds it
 abbrev pub runBy : Run → ℕ → List Stage → List ℤ → Ran
-runBy r n ss v = run (inside (limitOf (r .task)) n) (takenBy r n) (inOrder (r .task) ss) v
+runBy r n ss v =
+    run (inside (limitOf (r .task)) n) (takenBy r n) (nameAfter (r .task) n) (nameFirst (r .task) n) (inOrder (r .task) ss) v
 
 -- the document's run of the lent numbers
 unfoldable pub ranBy : Task → Rule → ℕ → List Stage → List ℤ → Ran

@@ -12,7 +12,7 @@ use crate::rounding::is_within;
 use rules::Block;
 
 // A number of 32 bits in 64.
-fn wide(z: i32) -> i64
+pub fn wide(z: i32) -> i64
     ensures { λ r. ⌜ r ≡ z ⌝ }
 {
     z as i64

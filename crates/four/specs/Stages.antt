@@ -13,8 +13,8 @@ use Rattle.rules.specs.declared.Rule.{Rule}
 use Rattle.rules.specs.Numbers.{at, count}
 use Rattle.rules.specs.Sheets.{kindOf, triangle}
 use Rattle.rules.specs.Factors.{signsAt, above, entriesBefore, factorAt, hasEntry, matrix}
-use Rattle.rules.specs.Stages.{Stage, fill, off, weighed, forward, recover, undo}
-use Rattle.rules.specs.Shapes.{those, byTurn, turn, order, inRow, stageOf, lineStage}
+use Rattle.rules.specs.Stages.{Stage, fill, those, off, weighed, forward, recover, undo}
+use Rattle.rules.specs.Shapes.{byTurn, turn, order, inRow, stageOf, lineStage}
 use Rattle.factor.specs.MovedInPlace.{movedBy}
 use Rattle.four.specs.Turns.{entryAt, rowSum, elementBy, lowerBy, upperBy, singleBy, stageOn}
 

@@ -22,7 +22,7 @@ use Rattle.rules.specs.Numbers.{mostCount, unit, unit², bound, at, count}
 use Rattle.rules.specs.Sheets.{between, unless, faultOf, kindOf}
 use Rattle.rules.specs.Factors.{Factor, numbers, signsAt, entriesBefore, factorAt, factorsFrom, factors, hasEntry, matrix}
 use Rattle.rules.specs.declared.Rule.{Rule}
-use Rattle.rules.specs.Stages.{R, inside, Stage, move, weigh, off, weighed, forward, Ran, later, run, runForward}
+use Rattle.rules.specs.Stages.{R, inside, firstRead, Stage, move, weigh, off, weighed, forward, Ran, later, run, runForward}
 use Rattle.rules.specs.Shapes.{order, stageOf, lineStage, lineStages, jointSource, jointSign, jointWeight, jointStage}
 use Rattle.rules.specs.Shapes.{jointStages}
 use Rattle.rules.specs.Answers.{accepted, further, start, matching}
@@ -397,7 +397,7 @@ unfolding runForward run lineStages
 line-run-same rule none x = refl
 line-run-same rule {n} (more {g = g} h t) x =
     rw (line-same rule h x)
-    (ap (λ (r : Ran). cond (inside bound n x) (later 1 r) (Ran.beyond 0))
+    (ap (λ (r : Ran). cond (inside bound n x) (later 1 r) (Ran.beyond 0 (firstRead n x)))
     (line-run-same rule t (forward rule n (lineStage n g) x)))
 
 -- ---- the same for a rectangle: element e stands in row e / n2 and column e % n2
@@ -435,5 +435,5 @@ module _ (rule : Rule) {n1 n2 : ℕ} where
   joint-run-same AllMatch.none none none x = refl
   joint-run-same (AllMatch.more u w q m) (more {g = g} h t) (more {g = b} c d) x =
       rw (joint-same q h c x)
-      (ap (λ (r : Ran). cond (inside bound (n1 * n2) x) (later 1 r) (Ran.beyond 0))
+      (ap (λ (r : Ran). cond (inside bound (n1 * n2) x) (later 1 r) (Ran.beyond 0 (firstRead (n1 * n2) x)))
       (joint-run-same m t d (forward rule (n1 * n2) (jointStage n1 n2 g b) x)))

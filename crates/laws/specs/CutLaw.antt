@@ -33,14 +33,14 @@ ready rule p x y = run-ready p (runForward rule (p .size) (p .stages) x) x y
 second-later : (f : ℕ) (r : Ran) (y : List ℤ) → ranReply 11 (later f r) y ≡ farther f (ranReply 11 r y)
 unfolding later farther reply ranAnswer ranMemory
 second-later f (done v) y = refl
-second-later f (beyond s) y = refl
+second-later f (beyond s e) y = refl
 
 two-runs : (f : ℕ) (r : Ran) (next : List ℤ → Ran) (second : List ℤ → Reply ℤ) (middle y : List ℤ) →
     ((v : List ℤ) → r ≡ done v → second v ≡ ranReply 11 (next v) y) →
     ranReply 11 (follow f r next) y ≡ inTwo f (ranReply 11 r middle) second y
 unfolding follow inTwo reply ranAnswer ranMemory
 two-runs f (done v) next second middle y h = second-later f (next v) y ∙ ap (farther f) (sym (h v refl))
-two-runs f (beyond s) next second middle y h = refl
+two-runs f (beyond s e) next second middle y h = refl
 
 -- ---- plans whose runs follow each other
 module _

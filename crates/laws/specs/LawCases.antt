@@ -10,11 +10,12 @@ use Rattle.rules.specs.declared.Rule.the-variants.{Nearest}
 use Rattle.rules.specs.Numbers.{unit, unit², at}
 use Rattle.rules.specs.Sheets.{go, times, among, faultOf, one, kindOf, triangle, weights, body, factor, closed, head, reading}
 use Rattle.rules.specs.Factors.{numbers, signsAt, above, entriesBefore, factorAt, factorsFrom, factors, hasEntry, matrix}
-use Rattle.rules.specs.Stages.{R, share, ceiling, fill, inside, off, weighed, multiples, forward, allow, scale, exact, later, run}
+use Rattle.rules.specs.Stages.{R, share, ceiling, fill, inside, those, offender, off, weighed, multiples, forward, allow, scale}
+use Rattle.rules.specs.Stages.{exact, later, run}
 use Rattle.rules.specs.Stages.{through, runForward, runAllowance, exactProduct, exactScale}
-use Rattle.rules.specs.Shapes.{those, byTurn, turn, order, inRow, stageOf, lineStage, lineStages, jointSource, jointSign}
+use Rattle.rules.specs.Shapes.{byTurn, turn, order, inRow, stageOf, lineStage, lineStages, jointSource, jointSign}
 use Rattle.rules.specs.Shapes.{jointWeight, jointShared, jointStage, jointStages}
-use Rattle.rules.specs.Answers.{_or-else_, accepted, refused, further}
+use Rattle.rules.specs.Answers.{_or-else_, accepted, refused, refusedAt, further}
 use Rattle.rules.specs.Calls.{Reply, reply, line, joint, ranAnswer, ranMemory, runReply, forwardCall, allowanceCall}
 use Rattle.rules.specs.Calls.{ruleOf, ruled}
 use Rattle.rules.specs.Strips.{stripAnswer, outputs, bytesOf, strip}
@@ -52,9 +53,9 @@ pub two-are-too-few :
     (leb (unit * apart) (2 * natAbs (at (allowances both) 0)) ∷ leb (unit * apart) (3 * natAbs (at (allowances both) 0)) ∷ [])
     ≡ (false ∷ true ∷ [])
 unfolding sum go times among faultOf one kindOf triangle weights body factor closed head reading numbers signsAt above
-    entriesBefore factorAt factorsFrom factors hasEntry matrix R share ceiling fill inside off weighed multiples forward allow
-    later run runForward runAllowance those byTurn turn order inRow stageOf lineStage lineStages _or-else_ reply line ranAnswer
-    ranMemory runReply forwardCall allowanceCall
+    entriesBefore factorAt factorsFrom factors hasEntry matrix R share ceiling fill inside offender off weighed multiples forward
+    allow later run runForward runAllowance those byTurn turn order inRow stageOf lineStage lineStages _or-else_ reply line
+    ranAnswer ranMemory runReply forwardCall allowanceCall
 two-are-too-few = refl
 
 -- a lower factor of two points, and a half exactly: document 01's sheet a
@@ -67,8 +68,8 @@ pub whole-allowance :
     (unit * natAbs ((pos (D (line half)) *ℤ at (F half (two (pos 1) (pos 0))) 1) -ℤ at (E (line half) (two (pos 1) (pos 0))) 1))
     ≡ pos (D (line half)) *ℤ at (allowances half) 1
 unfolding sum go times among faultOf one kindOf triangle weights body factor closed head reading numbers signsAt above
-    entriesBefore factorAt factorsFrom factors hasEntry matrix R share ceiling fill inside off weighed multiples forward allow
-    scale exact later run through runForward runAllowance exactProduct exactScale those byTurn turn order inRow stageOf
+    entriesBefore factorAt factorsFrom factors hasEntry matrix R share ceiling fill inside offender off weighed multiples forward
+    allow scale exact later run through runForward runAllowance exactProduct exactScale those byTurn turn order inRow stageOf
     lineStage lineStages _or-else_ reply line ranAnswer ranMemory runReply forwardCall allowanceCall
 whole-allowance = refl
 
@@ -88,8 +89,8 @@ pub share-of-rule-1 :
     ∷ [])
     ≡ (false ∷ true ∷ [])
 unfolding sum go times among faultOf one kindOf triangle weights body factor closed head reading numbers signsAt above
-    entriesBefore factorAt factorsFrom factors hasEntry matrix R share ceiling fill inside off weighed multiples forward allow
-    scale exact later run through runForward runAllowance exactProduct exactScale those byTurn turn order inRow stageOf
+    entriesBefore factorAt factorsFrom factors hasEntry matrix R share ceiling fill inside offender off weighed multiples forward
+    allow scale exact later run through runForward runAllowance exactProduct exactScale those byTurn turn order inRow stageOf
     lineStage lineStages _or-else_ reply line ranAnswer ranMemory runReply forwardCall allowanceCall ruleOf
 share-of-rule-1 = refl
 
@@ -117,16 +118,16 @@ pub cut-cases :
     ∷ forwardCall Nearest (line twice) (two (pos 16777215) (pos 1)) lent
     ∷ inParts (two (pos 16777215) (pos 1))
     ∷ [])
-    ≡ (record { answer = refused 11 0 2; memory = lent }
-    ∷ record { answer = refused 11 0 2; memory = lent }
-    ∷ record { answer = refused 11 0 1; memory = lent }
-    ∷ record { answer = refused 11 0 1; memory = lent }
-    ∷ record { answer = refused 11 0 1; memory = lent }
+    ≡ (record { answer = refusedAt 11 0 2 1; memory = lent }
+    ∷ record { answer = refusedAt 11 0 2 1; memory = lent }
+    ∷ record { answer = refusedAt 11 0 1 1; memory = lent }
+    ∷ record { answer = refusedAt 11 0 1 1; memory = lent }
+    ∷ record { answer = refusedAt 11 0 1 1; memory = lent }
     ∷ [])
 unfolding sum go times among faultOf one kindOf triangle weights body factor closed head reading numbers signsAt above
-    entriesBefore factorAt factorsFrom factors hasEntry matrix R fill inside off weighed forward later run runForward those
-    byTurn turn order inRow stageOf lineStage lineStages _or-else_ further reply line ranAnswer ranMemory runReply forwardCall
-    cut farther inTwo
+    entriesBefore factorAt factorsFrom factors hasEntry matrix R fill inside offender off weighed forward later run runForward
+    those byTurn turn order inRow stageOf lineStage lineStages _or-else_ further reply line ranAnswer ranMemory runReply
+    forwardCall cut farther inTwo
 cut-cases = refl
 
 -- a strip of one block: the first part refuses it, and the second part runs on what the middle slice held, and writes that
@@ -140,7 +141,7 @@ pub strip-cut-case :
     ∷ record { answer = accepted; output = two (pos 9) (pos 18); bytes = 0 ∷ [] }
     ∷ [])
 unfolding sum go times among faultOf one kindOf triangle weights body factor closed head reading numbers signsAt above
-    entriesBefore factorAt factorsFrom factors hasEntry matrix R fill inside off weighed forward later run runForward those
-    byTurn turn order inRow stageOf lineStage lineStages _or-else_ further reply line ranAnswer ranMemory runReply forwardCall
-    cut stripAnswer outputs bytesOf strip
+    entriesBefore factorAt factorsFrom factors hasEntry matrix R fill inside offender off weighed forward later run runForward
+    those byTurn turn order inRow stageOf lineStage lineStages _or-else_ further reply line ranAnswer ranMemory runReply
+    forwardCall cut stripAnswer outputs bytesOf strip
 strip-cut-case = refl

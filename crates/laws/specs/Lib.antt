@@ -14,5 +14,6 @@ pub mod Promises
 pub mod CutLaw
 pub mod Returned
 pub mod Strips
+pub mod Elements
 pub mod ReturnedStrips
 pub mod LawCases

@@ -85,7 +85,7 @@ sized-is side n v h = rw (eq-eqb (length v) n h)
 ran-fine : (k : ℕ) (ran : Ran) (y : List ℤ) → ranAnswer (suc k) ran .number ≡ 0 → ran ≡ done (ranMemory ran y)
 unfolding ranAnswer ranMemory
 ran-fine k (done v) y h = refl
-ran-fine k (beyond s) y h = absurd (omega arith)
+ran-fine k (beyond s e) y h = absurd (omega arith)
 
 -- ---- an accepted call, whose run leaves c in the lent y
 pub record Filled (p : Plan) (ran : Ran) (y c : List ℤ) : Type 0 where
@@ -141,22 +141,23 @@ module _ (step : Stage → List ℤ → List ℤ) (long : (s : Stage) (v : List 
   through-length [] v = refl
   through-length (s ∷ ss) v = through-length ss (step s v) ∙ long s v
 
-  run-length : (ok : List ℤ → Bool) (ss : List Stage) (v u : List ℤ) → run ok step ss v ≡ done u → length u ≡ length v
-  run-length ok ss v u h = ap length (sym (run-through ok step ss v u h)) ∙ through-length ss v
+  run-length : (ok : List ℤ → Bool) (names : Stage → List ℤ → ℕ) (name : List ℤ → ℕ) (ss : List Stage) (v u : List ℤ) →
+      run ok step names name ss v ≡ done u → length u ≡ length v
+  run-length ok names name ss v u h = ap length (sym (run-through ok step names name ss v u h)) ∙ through-length ss v
 
 module _ (rule : Rule) (N : ℕ) (ss : List Stage) (x y : List ℤ) where
   pub forward-length : runForward rule N ss x ≡ done y → length y ≡ length x
   unfolding runForward
-  forward-length h = run-length (forward rule N) (length-forward rule N) _ ss x y h
+  forward-length h = run-length (forward rule N) (length-forward rule N) _ _ _ ss x y h
 
   pub inverse-length : runInverse rule N ss x ≡ done y → length y ≡ length x
   unfolding runInverse
-  inverse-length h = run-length (undo rule N) (length-undo rule N) _ (reverse ss) x y h
+  inverse-length h = run-length (undo rule N) (length-undo rule N) _ _ _ (reverse ss) x y h
 
 pub allowance-length : (rule : Rule) (N : ℕ) (ss : List Stage) (b : List ℤ) → runAllowance rule N ss ≡ done b → length b ≡ N
 unfolding runAllowance
 allowance-length rule N ss b h =
-    run-length (allow rule N) (length-allow rule N) _ ss (replicate N (pos 0)) b h ∙ length-replicate N (pos 0)
+    run-length (allow rule N) (length-allow rule N) _ _ _ ss (replicate N (pos 0)) b h ∙ length-replicate N (pos 0)
 
 -- ---- the three calls
 module _ (rule : Rule) (p : Plan) where

@@ -37,7 +37,7 @@ pub record BlockCall (p : Plan) (call : List ℤ → List ℤ → Reply ℤ) : T
 ran-number : (r : Ran) → (ranAnswer 11 r .number ≡ 0) ⊎ (ranAnswer 11 r .number ≡ 11)
 unfolding ranAnswer
 ran-number (done v) = inl refl
-ran-number (beyond s) = inr refl
+ran-number (beyond s e) = inr refl
 
 run-number :
     (p : Plan) (ran : Ran) (x y : List ℤ) → p .sheets .number ≡ 0 → length x ≡ p .size → length y ≡ p .size →

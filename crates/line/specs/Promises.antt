@@ -14,7 +14,9 @@ use Rattle.rules.specs.Calls.{Gives, line, forwardCall, inverseCall, allowanceC
 use Rattle.laws.specs.Stated.Cuts.{cutFront, cutBack, CutLaw}
 use Rattle.laws.specs.CutLaw.{line-cut, ruled-cut}
 use Rattle.laws.specs.Stated.Calls.{E, Accepts, Promises}
-use Rattle.laws.specs.Plans.{line-plan}
+use Rattle.laws.specs.Stated.Elements.{NoElement, Plain, Elements}
+use Rattle.laws.specs.Plans.{line-plan, under-plan}
+use Rattle.laws.specs.Elements.{plan-elements, forward-plain, inverse-plain, allowance-element, line-none, under-none}
 use Rattle.laws.specs.Promises.{ruled-promises, forward-none, inverse-none, allowance-none, line-scale, one-answer}
 use Rattle.laws.specs.Returned.{returned-back, returned-there, returned-near, returned-difference}
 
@@ -40,6 +42,26 @@ pub no-rule :
     Gives (refused 16 0 0) y (ruled k forwardCall (line s) x y) × Gives (refused 16 0 0) y (ruled k inverseCall (line s) x y)
     × Gives (refused 16 0 0) y (ruled k allowanceCall (line s) y)
 no-rule k s x y h = (forward-none k (line s) h x y, inverse-none k (line s) h x y, allowance-none k (line s) h y)
+
+-- ---- request R-7: the element of 11 is the first offending one, in reading order or in the recovery order
+pub elements : (k : ℕ) (s : List ℤ) → Elements (ruleOf k) (under k (line s))
+elements k s = plan-elements (ruleOf k) (under-plan k (line-plan s))
+
+-- "It is 0 in every other answer"
+pub forward-other :
+    (k : ℕ) (s x y : List ℤ) {a : Answer} {m : List ℤ} → Gives a m (ruled k forwardCall (line s) x y) → Plain a
+forward-other k s x y g =
+    rw (g .0) (forward-plain (ruleOf k) (under k (line s)) (under-none k (line s) (line-none s)) x y)
+
+pub inverse-other :
+    (k : ℕ) (s x y : List ℤ) {a : Answer} {m : List ℤ} → Gives a m (ruled k inverseCall (line s) x y) → Plain a
+inverse-other k s x y g =
+    rw (g .0) (inverse-plain (ruleOf k) (under k (line s)) (under-none k (line s) (line-none s)) x y)
+
+pub allowance-other :
+    (k : ℕ) (s y : List ℤ) {a : Answer} {m : List ℤ} → Gives a m (ruled k allowanceCall (line s) y) → NoElement a
+allowance-other k s y g =
+    rw (g .0) (allowance-element (ruleOf k) (under k (line s)) (under-none k (line s) (line-none s)) y)
 
 -- ---- demand 2: "Inverse after an accepted forward run returns the block, and the other way round"
 promised : (k : ℕ) (s : List ℤ) → Promises (ruleOf k) (under k (line s))
@@ -78,7 +100,7 @@ unfolding line
 difference k s x z u y₁ y₂ y₃ y₄ = returned-difference (promised k s) x z u y₁ y₂ y₃ y₄
 
 -- the cut law: the two parts of a checked sheet, run one after the other by the rule of the whole, give what the whole gives,
--- refusals 11 too
+-- refusals 11 too, with their elements
 pub cut :
     (k : ℕ) (s : List ℤ) (f : ℕ) → ruleChecked k .number ≡ 0 → checked s .number ≡ 0 → 0 < f → f < count s 1 →
     CutLaw (ruleOf k) (under k (line s)) (under k (line (cutFront s f))) (under k (line (cutBack s f))) f

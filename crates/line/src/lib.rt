@@ -1,10 +1,13 @@
 // The line: forward, inverse and allowance runs of a block of n numbers over one sheet, by the rule of a number. The calls ask
 // nothing of their callers: whatever is lent is answered, and a refused call leaves the output as it was.
+ghost use mathlib.Core.Path.{_≡_};
+ghost use lib.ListN.{length};
+ghost use Rattle.rules.specs.Numbers.{mostCount};
 ghost use Rattle.rules.specs.Calls.{Gives, line, ruled, forwardCall, inverseCall, allowanceCall};
-ghost use Rattle.factor.specs.Tasks.{callBy, callOf};
-ghost use Rattle.factor.specs.CallAnswers.{NoneLent};
+ghost use Rattle.sheetread.specs.Starts.{Starts};
+ghost use Rattle.factor.specs.Tasks.{callBy};
+ghost use Rattle.factor.specs.CallAnswers.{NoneLent, checksOf};
 use factor::lengths::check_lengths;
-use factor::run::Run;
 use factor::run::Task;
 use factor::run::check_rule;
 use factor::run::run_by;
@@ -14,35 +17,44 @@ use rules::Sheet;
 use sheetcheck::checks::check_starts;
 use sheetread::factors::count_at;
 
-// 1 to 9, then 10 for the input and for the output, then the run.
-fn call(run: Run, s: &[i32], x: &[i32], y: &mut [i32]) -> Answer
-    requires { ⌜ NoneLent (run .task) (now x) ⌝ }
-    ensures { λ r. ⌜ Gives r (now (y .exit)) (callOf run (line (now (s .entry))) (now (x .entry)) (now (y .entry))) ⌝ }
-{
-    let mut starts = [0u16; Sheet::FACTORS];
-    let a = check_starts(s, &mut starts);
-    if a.number != 0 {
-        return a;
-    }
-    let task = run.task;
-    let l = check_lengths(task, count_at(s, 0), x.len(), y.len());
-    if l.number != 0 {
-        return l;
-    }
-    run_block(run, s, &starts, x, y)
-}
-
-// 16 for a number that is no rule's, then the call by that rule.
-fn call_by(task: Task, rule: u32, s: &[i32], x: &[i32], y: &mut [i32]) -> Answer
-    requires { ⌜ NoneLent task (now x) ⌝ }
-    ensures { λ r. ⌜ Gives r (now (y .exit)) (ruled rule (callBy task) (line (now (s .entry))) (now (x .entry))
-        (now (y .entry))) ⌝ }
+// 16 for a number that is no rule's, then 1 to 9, then 10 for the input and for the output. If there is none, the table has where
+// the factors start.
+fn check_call(
+    task: Task,
+    rule: u32,
+    s: &[i32],
+    x: usize,
+    y: usize,
+    starts: &mut [u16; Sheet::FACTORS],
+) -> Answer
+    requires { ⌜ length (now starts) ≡ mostCount ⌝ }
+    ensures { λ r. ⌜ (r ≡ checksOf rule task (line (now (s .entry))) x y)
+        × (r .number ≡ 0 → Starts (now (s .entry)) (now (starts .exit))) ⌝ }
 {
     let a = check_rule(rule);
     if a.number != 0 {
         return a;
     }
-    call(run_by(task, rule), s, x, y)
+    let c = check_starts(s, starts);
+    if c.number != 0 {
+        return c;
+    }
+    check_lengths(task, count_at(s, 0), x, y)
+}
+
+// The checks, then the run by that rule. All that may be refused before the run stands in one function, so that the compiler puts
+// this one into the calls.
+fn call_by(task: Task, rule: u32, s: &[i32], x: &[i32], y: &mut [i32]) -> Answer
+    requires { ⌜ NoneLent task (now x) ⌝ }
+    ensures { λ r. ⌜ Gives r (now (y .exit)) (ruled rule (callBy task) (line (now (s .entry))) (now (x .entry))
+        (now (y .entry))) ⌝ }
+{
+    let mut starts = [0u16; Sheet::FACTORS];
+    let a = check_call(task, rule, s, x.len(), y.len(), &mut starts);
+    if a.number != 0 {
+        return a;
+    }
+    run_block(true, run_by(task, rule), s, &starts, x, y)
 }
 
 // Forward: x through the sheet's factors, first to last, into y.

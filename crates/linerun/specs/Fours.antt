@@ -22,7 +22,7 @@ use Rattle.factor.specs.declared.run.Task.{Task}
 use Rattle.factor.specs.declared.run.Task.the-variants.{Forward, Inverse, Allowance}
 use Rattle.factor.specs.SumBounds.{Bounded}
 use Rattle.factor.specs.Steps.{Step, step-goes}
-use Rattle.factor.specs.Tasks.{isInverse, limitOf, inputsOf, inOrder, stageBy, ranBy, runBy}
+use Rattle.factor.specs.Tasks.{isInverse, limitOf, inputsOf, inOrder, stageBy, nameFirst, nameAfter, ranBy, runBy}
 use Rattle.four.specs.declared.Four.{Four}
 use Rattle.four.specs.Turns.{stageOn, Became}
 use Rattle.four.specs.Stages.{four-list}
@@ -43,7 +43,7 @@ inputs-are Allowance n q = absurd (q refl)
 -- the document's run is that of the code
 pub ran-is : (task : Task) (rule : Rule) (n : ℕ) (ss : List Stage) (x : List ℤ) → task ≢ Allowance →
     ranBy task rule n ss x ≡ runBy (record { task = task; rule = rule }) n ss x
-unfolding ranBy limitOf stageBy inOrder runForward runInverse
+unfolding ranBy limitOf stageBy nameFirst nameAfter inOrder runForward runInverse
 ran-is Forward rule n ss x q = refl
 ran-is Inverse rule n ss x q = refl
 ran-is Allowance rule n ss x q = absurd (q refl)

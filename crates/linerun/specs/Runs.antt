@@ -1,13 +1,14 @@
 -- ALL FACTORS OF A LINE: the stages one by one, forward and back, as the loops of the code meet them.
+use mathlib.Core.Bool.{true, false}
 use mathlib.Core.List.{List, [], _∷_, _++_, reverse, reverse-append}
-use mathlib.Core.Path.{_≡_, refl, ap, _∙_}
-use Prim.Native.Nat.{ℕ, suc, _+_, _-_, _<_}
+use mathlib.Core.Path.{_≡_, refl, sym, ap, _∙_}
+use Prim.Native.Nat.{ℕ, suc, _+_, _-_, _≤_, _<_}
 use native.Mathlib.Nat.{sub-self, sub-zero}
 use native.Mathlib.Omega.{arith}
 use lib.IntN.{ℤ}
 use Rattle.rules.specs.Numbers.{count}
 use Rattle.rules.specs.Factors.{factorAt, factorsFrom, factors}
-use Rattle.rules.specs.Stages.{Stage}
+use Rattle.rules.specs.Stages.{Stage, done, beyond}
 use Rattle.rules.specs.Shapes.{lineStage, lineStages}
 use Rattle.rules.specs.Answers.{further}
 use Rattle.rules.specs.Laws.Cuts.{lines-append}
@@ -16,11 +17,13 @@ use Rattle.rules.specs.Laws.Runs.{loop-start}
 use Rattle.rules.specs.Laws.Kinds.{lines-good}
 use Rattle.laws.specs.Accepted.{Accepted, further-next}
 use Rattle.laws.specs.Sound.{sheet-sound, factors-split}
+use Rattle.laws.specs.Tests.{apart}
 use Rattle.factor.specs.declared.run.Task.{Task}
 use Rattle.factor.specs.declared.run.Task.the-variants.{Forward, Inverse, Allowance}
 use Rattle.factor.specs.declared.run.Run.{Run}
+use Rattle.factor.specs.declared.run.Outcome.{Outcome}
 use Rattle.factor.specs.SumBounds.{Bounded}
-use Rattle.factor.specs.Tasks.{isInverse, limitOf, nthStage, inOrder, takenBy, runBy}
+use Rattle.factor.specs.Tasks.{isInverse, limitOf, nthStage, inOrder, takenBy, nameFirst, nameAfter, runBy}
 use Rattle.factor.specs.StageLoops.{Listed, Stands}
 
 -- the stages of a sheet
@@ -89,8 +92,42 @@ left-all s Allowance = rw sub-zero
 -- ---- the run of x that is asked for stands at v after t stages
 abbrev pub RunAt : Run → List ℤ → List ℤ → ℕ → List ℤ → Type 0
 RunAt r s x t v =
-    Stands (limitOf (r .task)) (count s 0) (takenBy r (count s 0)) (left s (count s 0) (count s 1) (r .task))
-    (runBy r (count s 0) (lineStagesOf s) x) t v
+    Stands (limitOf (r .task)) (count s 0) (takenBy r (count s 0)) (nameAfter (r .task) (count s 0))
+    (nameFirst (r .task) (count s 0)) (left s (count s 0) (count s 1) (r .task)) (runBy r (count s 0) (lineStagesOf s) x) t v
 
 pub run-starts : (r : Run) (s : List ℤ) {x : List ℤ} → Bounded (limitOf (r .task)) x → RunAt r s x 0 x
-run-starts r s h = record { small = h; left = rw (left-all s (r .task)) (loop-start _ _ _ _) }
+run-starts r s h = record { small = h; left = rw (left-all s (r .task)) (loop-start _ _ _ _ _ _) }
+
+-- ---- the end of a run
+-- the element that is named where the numbers after the stage in turn t are refused; v is the block before it
+abbrev pub namedIn : Run → List ℤ → ℕ → List ℤ → ℕ
+namedIn r s t v =
+    let stage = at-stage s (count s 0) (nthStage (r .task) (count s 1) t) in
+    nameAfter (r .task) (count s 0) stage (takenBy r (count s 0) stage v)
+
+-- a stage that a refusal can have, and the block before it
+pub record Refusable (r : Run) (s : List ℤ) (stage : ℕ) (v : List ℤ) : Type 0 where
+  pub some : 1 ≤ stage
+  pub most : stage ≤ count s 1
+  pub small : Bounded (limitOf (r .task)) v
+
+-- how the code ends a run: the last block, or the stage that is refused and the block before it
+pub record RunEnded (r : Run) (s x : List ℤ) (end : Outcome) (block : List ℤ) : Type 0 where
+  pub takes : end .ok ≡ true → runBy r (count s 0) (lineStagesOf s) x ≡ done block
+  pub stops : end .ok ≡ false →
+      (runBy r (count s 0) (lineStagesOf s) x ≡ beyond (end .stage) (namedIn r s (end .stage - 1) block))
+      × Refusable r s (end .stage) block
+
+module _ (r : Run) (s : List ℤ) {x v : List ℤ} where
+  pub run-ends-done : runBy r (count s 0) (lineStagesOf s) x ≡ done v → RunEnded r s x (record { ok = true; stage = 0 }) v
+  run-ends-done e = record { takes = λ t. e; stops = λ t. apart t }
+
+  pub run-ends-stopped : (t : ℕ) → t < count s 1 → RunAt r s x t v →
+      runBy r (count s 0) (lineStagesOf s) x ≡ beyond (t + 1) (namedIn r s t v) →
+      RunEnded r s x (record { ok = false; stage = t + 1 }) v
+  run-ends-stopped t l h e = record {
+    takes = λ z. apart (sym z);
+    stops = λ z.
+        let d : t + 1 - 1 ≡ t = omega arith in
+        (rw d e, record { some = omega arith; most = omega arith; small = h .small });
+  }

@@ -1,24 +1,30 @@
 // A run of one block over a checked sheet: the block lies at the front of an array of 16, 0 behind it.
+ghost use mathlib.Core.Bool.{true};
 ghost use mathlib.Core.Path.{_≡_};
-ghost use Prim.Native.Nat.{_≤_};
+ghost use Prim.Native.Nat.{_-_, _≤_};
 ghost use lib.ListN.{length};
 ghost use Rattle.rules.specs.Numbers.{mostOrder, count};
-ghost use Rattle.rules.specs.Calls.{Gives};
+ghost use Rattle.rules.specs.Answers.{refusedAt};
 ghost use Rattle.laws.specs.Accepted.{Accepted};
 ghost use Rattle.laws.specs.AnswersInTurn.{ranReply};
 ghost use Rattle.sheetread.specs.Starts.{Starts};
 ghost use Rattle.factor.specs.Tasks.{inputsOf, numberOf, ran};
 ghost use Rattle.factor.specs.PaddedBlocks.{paddedBlock};
-ghost use Rattle.linerun.specs.Runs.{lineStagesOf};
+ghost use Rattle.factor.specs.RunReplies.{GivesAsked};
+ghost use Rattle.linerun.specs.Runs.{lineStagesOf, namedIn, Refusable};
 use crate::fours::run_four;
 use crate::runs::run_stages;
 use factor::block::copy_front;
-use factor::block::finish;
 use factor::bounds::is_inside;
 use factor::run::Run;
+use factor::run::nth_start;
+use factor::run::number_of;
+use offender::input::first_beyond;
+use offender::stage::line_element;
 use rules::Answer;
 use rules::Block;
 use rules::Sheet;
+use sheetread::factors::count_at;
 
 // The lent numbers as a block. For allowances none are lent, and the block is all 0, which is where allowances start.
 fn load(x: &[i32]) -> [i32; Block::LINE]
@@ -30,24 +36,34 @@ fn load(x: &[i32]) -> [i32; Block::LINE]
     b
 }
 
-// 11 or 13, or what the run gives in y.
-fn run_any(run: Run, s: &[i32], starts: &[u16; Sheet::FACTORS], x: &[i32], y: &mut [i32]) -> Answer
-    requires { ⌜ Accepted (now s) × Starts (now s) (now starts)
-        × (length (now x) ≡ inputsOf (run .task) (count (now s) 0)) × (length (now y) ≡ count (now s) 0) ⌝ }
-    ensures { λ a. ⌜ Gives a (now (y .exit))
-        (ranReply (numberOf (run .task)) (ran run (count (now (s .entry)) 0) (lineStagesOf (now (s .entry))) (now (x .entry)))
-        (now (y .entry))) ⌝ }
+// 11 or 13 at a stage; v is the block before it. The element is looked for only here, where the run is refused, and only if it is
+// asked for.
+fn refuse(
+    named: bool,
+    run: Run,
+    s: &[i32],
+    starts: &[u16; Sheet::FACTORS],
+    stage: usize,
+    v: [i32; Block::LINE],
+) -> Answer
+    requires { ⌜ Accepted (now s) × Starts (now s) (now starts) × Refusable run (now s) stage v ⌝ }
+    ensures { λ a. ⌜ (a .number ≡ numberOf (run .task))
+        × (named ≡ true → a ≡ refusedAt (numberOf (run .task)) 0 stage (namedIn run (now (s .entry)) (stage - 1) v)) ⌝ }
 {
-    if !is_inside(x) {
-        return Answer::refused(11, 0, 0);
-    }
     let task = run.task;
-    let r = run_stages(run, s, starts, load(x));
-    finish(task, r.outcome, &r.block, y)
+    if !named {
+        return Answer::refused(number_of(task), 0, stage as u64);
+    }
+    let n = count_at(s, 0);
+    let i = nth_start(task, s, starts, stage - 1);
+    let mut b = v;
+    let e = line_element(run, s, n, i, &mut b);
+    Answer::refused_at(number_of(task), 0, stage as u64, e as u64)
 }
 
-// The same; a block of four is taken by itself, for its speed.
-pub fn run_block(
+// 11 or 13, or what the run gives in y.
+fn run_any(
+    named: bool,
     run: Run,
     s: &[i32],
     starts: &[u16; Sheet::FACTORS],
@@ -56,13 +72,40 @@ pub fn run_block(
 ) -> Answer
     requires { ⌜ Accepted (now s) × Starts (now s) (now starts)
         × (length (now x) ≡ inputsOf (run .task) (count (now s) 0)) × (length (now y) ≡ count (now s) 0) ⌝ }
-    ensures { λ a. ⌜ Gives a (now (y .exit))
+    ensures { λ a. ⌜ GivesAsked named a (now (y .exit))
+        (ranReply (numberOf (run .task)) (ran run (count (now (s .entry)) 0) (lineStagesOf (now (s .entry))) (now (x .entry)))
+        (now (y .entry))) ⌝ }
+{
+    if !is_inside(x) {
+        return Answer::refused_at(11, 0, 0, first_beyond(x) as u64);
+    }
+    let r = run_stages(run, s, starts, load(x));
+    if !r.outcome.ok {
+        return refuse(named, run, s, starts, r.outcome.stage, r.block);
+    }
+    let n = y.len();
+    copy_front(&r.block, y, n);
+    Answer::accepted()
+}
+
+// The same; a block of four is taken by itself, for its speed.
+pub fn run_block(
+    named: bool,
+    run: Run,
+    s: &[i32],
+    starts: &[u16; Sheet::FACTORS],
+    x: &[i32],
+    y: &mut [i32],
+) -> Answer
+    requires { ⌜ Accepted (now s) × Starts (now s) (now starts)
+        × (length (now x) ≡ inputsOf (run .task) (count (now s) 0)) × (length (now y) ≡ count (now s) 0) ⌝ }
+    ensures { λ a. ⌜ GivesAsked named a (now (y .exit))
         (ranReply (numberOf (run .task)) (ran run (count (now (s .entry)) 0) (lineStagesOf (now (s .entry))) (now (x .entry)))
         (now (y .entry))) ⌝ }
 {
     let r = run_four(run, s, starts, x);
     if !r.ok {
-        return run_any(run, s, starts, x, y);
+        return run_any(named, run, s, starts, x, y);
     }
     copy_front(&r.block, y, 4);
     Answer::accepted()

@@ -1,11 +1,9 @@
 // All factors of a checked sheet, one after another.
-ghost use Rattle.rules.specs.Numbers.{count};
 ghost use Rattle.laws.specs.Accepted.{Accepted};
 ghost use Rattle.sheetread.specs.Starts.{Starts};
-ghost use Rattle.factor.specs.PaddedBlocks.{RunEnded};
 ghost use Rattle.factor.specs.SumBounds.{Bounded};
-ghost use Rattle.factor.specs.Tasks.{limitOf, runBy};
-ghost use Rattle.linerun.specs.Runs.{lineStagesOf};
+ghost use Rattle.factor.specs.Tasks.{limitOf};
+ghost use Rattle.linerun.specs.Runs.{RunEnded};
 use crate::stages::run_stage;
 use crate::steps::Passed;
 use factor::run::Outcome;
@@ -15,7 +13,8 @@ use rules::Block;
 use rules::Sheet;
 use sheetread::factors::count_at;
 
-// The block after the last stage, or the stage that is refused: first to last, or, for an inverse run, last to first.
+// The block after the last stage, or the stage that is refused and the block before it: first to last, or, for an inverse run,
+// last to first.
 pub fn run_stages(
     run: Run,
     sheet: &[i32],
@@ -23,8 +22,7 @@ pub fn run_stages(
     x: [i32; Block::LINE],
 ) -> Passed
     requires { ⌜ Accepted (now sheet) × Starts (now sheet) (now starts) × Bounded (limitOf (run .task)) x ⌝ }
-    ensures { λ r. ⌜ RunEnded (runBy run (count (now (sheet .entry)) 0) (lineStagesOf (now (sheet .entry))) x) (r .outcome)
-        (r .block) ⌝ }
+    ensures { λ r. ⌜ RunEnded run (now (sheet .entry)) x (r .outcome) (r .block) ⌝ }
 {
     let task = run.task;
     let n = count_at(sheet, 0);

@@ -14,7 +14,9 @@ use Rattle.rules.specs.Calls.{Gives, joint, forwardCall, inverseCall, allowance
 use Rattle.laws.specs.Stated.Cuts.{cutFront, cutBack, CutLaw}
 use Rattle.laws.specs.CutLaw.{joint-cut, ruled-cut}
 use Rattle.laws.specs.Stated.Calls.{E, D, Accepts, Promises}
-use Rattle.laws.specs.Plans.{joint-plan}
+use Rattle.laws.specs.Stated.Elements.{NoElement, Plain, Elements}
+use Rattle.laws.specs.Plans.{joint-plan, under-plan}
+use Rattle.laws.specs.Elements.{plan-elements, forward-plain, inverse-plain, allowance-element, joint-none, under-none}
 use Rattle.laws.specs.Promises.{ruled-promises, forward-none, inverse-none, allowance-none, joint-scale, one-answer}
 use Rattle.laws.specs.Returned.{returned-back, returned-there, returned-near, returned-difference}
 
@@ -41,6 +43,26 @@ pub no-rule :
     × Gives (refused 16 0 0) y (ruled k inverseCall (joint c r) x y)
     × Gives (refused 16 0 0) y (ruled k allowanceCall (joint c r) y)
 no-rule k c r x y h = (forward-none k (joint c r) h x y, inverse-none k (joint c r) h x y, allowance-none k (joint c r) h y)
+
+-- ---- request R-7: the element of 11 is the first offending one, in reading order or in the recovery order
+pub elements : (k : ℕ) (c r : List ℤ) → Elements (ruleOf k) (under k (joint c r))
+elements k c r = plan-elements (ruleOf k) (under-plan k (joint-plan c r))
+
+-- "It is 0 in every other answer"
+pub forward-other :
+    (k : ℕ) (c r x y : List ℤ) {a : Answer} {m : List ℤ} → Gives a m (ruled k forwardCall (joint c r) x y) → Plain a
+forward-other k c r x y g =
+    rw (g .0) (forward-plain (ruleOf k) (under k (joint c r)) (under-none k (joint c r) (joint-none c r)) x y)
+
+pub inverse-other :
+    (k : ℕ) (c r x y : List ℤ) {a : Answer} {m : List ℤ} → Gives a m (ruled k inverseCall (joint c r) x y) → Plain a
+inverse-other k c r x y g =
+    rw (g .0) (inverse-plain (ruleOf k) (under k (joint c r)) (under-none k (joint c r) (joint-none c r)) x y)
+
+pub allowance-other :
+    (k : ℕ) (c r y : List ℤ) {a : Answer} {m : List ℤ} → Gives a m (ruled k allowanceCall (joint c r) y) → NoElement a
+allowance-other k c r y g =
+    rw (g .0) (allowance-element (ruleOf k) (under k (joint c r)) (under-none k (joint c r) (joint-none c r)) y)
 
 -- ---- demand 2: "Inverse after an accepted forward run returns the block, and the other way round"
 promised : (k : ℕ) (c r : List ℤ) → Promises (ruleOf k) (under k (joint c r))

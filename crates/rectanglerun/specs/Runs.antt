@@ -21,7 +21,7 @@ use Rattle.factor.specs.declared.run.Task.the-variants.{Forward, Inverse, Allow
 use Rattle.factor.specs.declared.run.Run.{Run}
 use Rattle.factor.specs.Tasks.{isInverse, nthStage, inOrder, runBy, ran}
 use Rattle.factor.specs.StageLoops.{Listed}
-use Rattle.rectanglerun.specs.StagesAgree.{Paired}
+use Rattle.factor.specs.LayoutInSheet.{Paired}
 
 -- ---- two checked sheets that match
 pub record Matched (c r : List ℤ) : Type 0 where

@@ -34,7 +34,7 @@ use Rattle.factor.specs.Tasks.{isInverse, limitOf, stageBy, takenBy}
 use Rattle.factor.specs.Steps.{Step}
 use Rattle.factor.specs.MovedInPlace.{movedBy}
 use Rattle.factor.specs.Layouts.{rowIn, layoutBy, layoutAt, rowOf, isMove}
-use Rattle.factor.specs.LayoutInSheet.{in-sheet, move-no, row-inside}
+use Rattle.factor.specs.LayoutInSheet.{in-sheet, move-no, row-inside, Paired}
 use Rattle.factor.specs.UndoingOrder.{nthUndone, undoing-permutes, later-blind}
 use Rattle.factor.specs.WholeRows.{row-whole}
 use Rattle.factor.specs.InPlace.{inPlace, in-place-undoes}
@@ -259,16 +259,6 @@ module _ (c r : List ℤ) (n1 n2 a b : ℕ) where
         ≡ takenBy run (n1 * n2) (jointStage n1 n2 (factorAt c n1 a) (factorAt r n2 b)) x
     moves-are run x =
         moved-by (run .task) (run .rule) x ∙ ap (λ (t : Stage). stageBy (run .task) (run .rule) (n1 * n2) t x) (sym (moving q))
-
--- ---- what a stage asks: a factor of each checked sheet, of one kind
-pub record Paired (c r : List ℤ) (n1 n2 i j : ℕ) : Type 0 where
-  pub some1 : 1 ≤ n1
-  pub most1 : n1 ≤ mostOrder
-  pub column : FactorRead c n1 i
-  pub some2 : 1 ≤ n2
-  pub most2 : n2 ≤ mostOrder
-  pub row : FactorRead r n2 j
-  pub match : kindOf (count c i) ≡ kindOf (count r j)
 
 -- ---- a pair of factors with weights, as the code learns it: by its layouts
 module _ {c r : List ℤ} {n1 n2 i j : ℕ} (p : Paired c r n1 n2 i j) {fa fb : Layout} (ea : fa ≡ layoutAt c n1 i)

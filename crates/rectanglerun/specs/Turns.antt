@@ -7,55 +7,80 @@ use Prim.Native.Nat.{ℕ, _+_, _-_, _*_, _/_, _%_, _≤_, _<_}
 use native.Mathlib.Omega.{arith}
 use lib.IntN.{ℤ, pos}
 use lib.ListN.{length, replicate}
-use Rattle.rules.specs.declared.Answer.{Answer}
 use Rattle.rules.specs.declared.Kind.the-variants.{Permutation}
 use Rattle.rules.specs.Numbers.{mostCells, bound, at, count}
 use Rattle.rules.specs.Sheets.{kindOf}
 use Rattle.rules.specs.Factors.{signsAt}
 use Rattle.rules.specs.Stages.{Ran, done, beyond, fill, inside}
-use Rattle.rules.specs.Answers.{start, accepted, refused}
-use Rattle.rules.specs.Calls.{Gives, ranMemory}
+use Rattle.rules.specs.Answers.{start}
 use Rattle.rules.specs.Laws.Lists.{length-fill, fill-at, fill-past}
 use Rattle.rules.specs.Laws.Runs.{loop-start}
+use Rattle.laws.specs.Tests.{apart}
 use Rattle.factor.specs.declared.run.Task.{Task}
 use Rattle.factor.specs.declared.run.Task.the-variants.{Forward, Inverse, Allowance}
 use Rattle.factor.specs.declared.run.Run.{Run}
 use Rattle.factor.specs.declared.run.Outcome.{Outcome}
 use Rattle.factor.specs.Layouts.{layoutBy, layoutAt, isMove}
-use Rattle.factor.specs.LayoutInSheet.{move-yes}
+use Rattle.factor.specs.LayoutInSheet.{move-yes, Paired}
 use Rattle.factor.specs.SumBounds.{Bounded}
-use Rattle.factor.specs.Tasks.{isInverse, limitOf, inputsOf, nthStage, takenBy, stage-below}
+use Rattle.factor.specs.Tasks.{isInverse, limitOf, inputsOf, nthStage, takenBy, nameFirst, nameAfter, stage-below}
 use Rattle.factor.specs.MovedInPlace.{movedBy, moved-bounded}
-use Rattle.factor.specs.PaddedBlocks.{ranOk, ranStage, outcomeOf, finished, paddedBlock, load-is}
+use Rattle.factor.specs.PaddedBlocks.{paddedBlock, load-is}
 use Rattle.factor.specs.RunReplies.{start-bounded}
 use Rattle.factor.specs.Steps.{step-goes}
-use Rattle.factor.specs.StageLoops.{Stands, stage-passes, stages-done}
+use Rattle.factor.specs.StageLoops.{Stands, stage-passes, stages-done, stage-named}
 use Rattle.pairmoves.specs.Moves.{sourceOf}
 use Rattle.pairmoves.specs.MovedAside.{placeAt, Places, places-after, MovedInto, moved-over, into-moved, moved-out}
-use Rattle.rectanglerun.specs.StagesAgree.{Paired, moves-are}
+use Rattle.rectanglerun.specs.StagesAgree.{moves-are}
 use Rattle.rectanglerun.specs.Runs.{Matched, paired, sizeOf, size-most, jointRunBy, at-stage, left, left-listed, left-all}
 
 -- ---- a run after t stages
 abbrev pub StandsAt : Run → List ℤ → List ℤ → Ran → ℕ → List ℤ → Type 0
 StandsAt run c r ran t v =
-    Stands (limitOf (run .task)) (sizeOf c r) (takenBy run (sizeOf c r)) (left c r (run .task)) ran t v
+    Stands (limitOf (run .task)) (sizeOf c r) (takenBy run (sizeOf c r)) (nameAfter (run .task) (sizeOf c r))
+    (nameFirst (run .task) (sizeOf c r)) (left c r (run .task)) ran t v
+
+-- a run that is refused at a stage
+pub record Refused (ran : Ran) (stage : ℕ) : Type 0 where
+  pub element : ℕ
+  pub is : ran ≡ beyond stage element
+
+pub refused-there : {ran : Ran} {stage element : ℕ} → ran ≡ beyond stage element → Refused ran stage
+refused-there {element = k} h = record { element = k; is = h }
 
 -- the loop over the stages: a run that stands at x before them stands at y after them, or is refused
 pub record Progress (run : Run) (c r : List ℤ) (from to : ℕ) (x : List ℤ) (end : Outcome) (y : List ℤ) : Type 0 where
   pub passes : end .ok ≡ true → (ran : Ran) → StandsAt run c r ran from x → StandsAt run c r ran to y
-  pub stops : end .ok ≡ false → (ran : Ran) → StandsAt run c r ran from x → ran ≡ beyond (end .stage)
+  pub stops : end .ok ≡ false → (1 ≤ end .stage) × (end .stage ≤ to)
+      × ((ran : Ran) → StandsAt run c r ran from x → Refused ran (end .stage))
 
 pub progress-passes :
     {run : Run} {c r : List ℤ} {from to : ℕ} {x y : List ℤ} →
     ((ran : Ran) → StandsAt run c r ran from x → StandsAt run c r ran to y) →
     Progress run c r from to x (record { ok = true; stage = 0 }) y
-progress-passes h = record { passes = λ e. h; stops = λ e. let z : _≡_ {A = ℕ} 0 1 = cc in absurd (omega arith) }
+progress-passes h = record { passes = λ e. h; stops = λ e. apart e }
 
 pub progress-stops :
-    {run : Run} {c r : List ℤ} {from to : ℕ} {x y : List ℤ} {s : ℕ} →
-    ((ran : Ran) → StandsAt run c r ran from x → ran ≡ beyond s) →
-    Progress run c r from to x (record { ok = false; stage = s }) y
-progress-stops h = record { passes = λ e. let z : _≡_ {A = ℕ} 0 1 = cc in absurd (omega arith); stops = λ e. h }
+    {run : Run} {c r : List ℤ} {from to : ℕ} {x y : List ℤ} (t : ℕ) → t < to →
+    ((ran : Ran) → StandsAt run c r ran from x → Refused ran (t + 1)) →
+    Progress run c r from to x (record { ok = false; stage = t + 1 }) y
+progress-stops t l h = record { passes = λ e. apart (sym e); stops = λ e. (omega arith, omega arith, h) }
+
+-- a run that is known to be refused after these stages passes them
+pub progress-goes :
+    {run : Run} {c r : List ℤ} {from to : ℕ} {x : List ℤ} {end : Outcome} {y : List ℤ} {ran : Ran} {stage : ℕ} →
+    Progress run c r from to x end y → StandsAt run c r ran from x → Refused ran stage → to < stage →
+    StandsAt run c r ran to y
+progress-goes {run} {c} {r} {from} {to} {x} {end} {y} {ran} {stage} p s f l = go (end .ok) refl
+  where
+    go : (b : Bool) → end .ok ≡ b → StandsAt run c r ran to y
+    go true e = p .passes e ran s
+    go false e =
+        let q = p .stops e in
+        let g = q .2 ran s in
+        let z : beyond (end .stage) (g .element) ≡ beyond stage (f .element) = sym (g .is) ∙ f .is in
+        let d : end .stage ≡ stage = cc in
+        absurd (omega (arith, q .1))
 
 -- the copy in: the run of the lent numbers, after the stages that it made
 pub record Loaded (run : Run) (c r x : List ℤ) (t : ℕ) (block : List ℤ) : Type 0 where
@@ -110,7 +135,7 @@ stops-before e l q = record { least = omega arith; most = omega arith; last = λ
 module _ {c r : List ℤ} (m : Matched c r) (run : Run) where
   -- before the first stage
   stands-first : {v : List ℤ} → Bounded (limitOf (run .task)) v → StandsAt run c r (jointRunBy run c r v) 0 v
-  stands-first h = let all = left-all c r m (run .task) in record { small = h; left = loop-start _ _ _ _ ∙ rw all }
+  stands-first h = let all = left-all c r m (run .task) in record { small = h; left = loop-start _ _ _ _ _ _ ∙ rw all }
 
   -- a pair of permutations in turn t
   module _ (t : ℕ) (l : t < count c 1) (q : movesInTurn c (run .task) t ≡ true) where
@@ -211,14 +236,18 @@ module _ {c r : List ℤ} (m : Matched c r) (run : Run) where
   pub stores-copied : {t : ℕ} {v y z : List ℤ} → t ≡ count c 1 → z ≡ fill (length y) (at v) y → Stored run c r t v y z
   stores-copied {v} e h ran s = record { block = v; ends = stages-done (left-listed c r (run .task)) (rw e at s); written = h }
 
--- ---- the reply
-module _ {ran : Ran} {a : Answer} (b : List ℤ) (number : ℕ) where
-  pub written-reply : {y z : List ℤ} → Written ran y z → a ≡ accepted →
-      Gives a z (finished (outcomeOf ran) (ranMemory ran b) number y)
-  unfolding finished ranOk ranStage ranMemory
-  written-reply w e = rw (w .ends) (e, w .written)
+-- ---- a run that is refused: the element that is named after the stage in turn t; v is the block before it
+abbrev pub namedIn : Run → List ℤ → List ℤ → ℕ → List ℤ → ℕ
+namedIn run c r t v =
+    let stage = at-stage c r (inTurn c (run .task) t) in
+    nameAfter (run .task) (sizeOf c r) stage (takenBy run (sizeOf c r) stage v)
 
-  pub refused-reply : {s : ℕ} (y : List ℤ) → ran ≡ beyond s → a ≡ refused number 0 s →
-      Gives a y (finished (outcomeOf ran) (ranMemory ran b) number y)
-  unfolding finished ranOk ranStage ranMemory
-  refused-reply y h e = rw h (e, refl)
+pub named-there :
+    (run : Run) (c r : List ℤ) {ran : Ran} (stage : ℕ) {v : List ℤ} → 1 ≤ stage → stage ≤ count c 1 →
+    StandsAt run c r ran (stage - 1) v → Refused ran stage →
+    ran ≡ beyond stage (namedIn run c r (stage - 1) v)
+named-there run c r {ran} stage {v} l m s f =
+    let z : stage ≡ stage - 1 + 1 = omega arith in
+    let e : ran ≡ beyond (stage - 1 + 1) (f .element) = f .is ∙ ap (λ (k : ℕ). beyond k (f .element)) z in
+    stage-named (left-listed c r (run .task)) (stage - 1) (omega arith) s e
+    ∙ ap (λ (k : ℕ). beyond k (namedIn run c r (stage - 1) v)) (sym z)

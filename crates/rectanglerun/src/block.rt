@@ -1,25 +1,75 @@
 // A run of one block over two checked sheets that match: the block lies, row by row, at the front of an array of 256, with 0
 // behind it.
 ghost use mathlib.Core.Path.{_≡_};
-ghost use lib.ListN.{length};
-ghost use Rattle.rules.specs.Calls.{Gives};
+ghost use Prim.Native.Nat.{_≤_};
+ghost use mathlib.Core.Bool.{true};
+ghost use lib.IntN.{pos};
+ghost use lib.ListN.{length, replicate};
+ghost use Rattle.rules.specs.Numbers.{mostCells, bound, count};
+ghost use Rattle.rules.specs.Stages.{inside};
+ghost use Rattle.rules.specs.Calls.{ranAnswer};
 ghost use Rattle.laws.specs.AnswersInTurn.{ranReply};
 ghost use Rattle.sheetread.specs.Starts.{Starts};
 ghost use Rattle.factor.specs.Tasks.{inputsOf, numberOf};
-ghost use Rattle.rectanglerun.specs.Runs.{Matched, sizeOf, jointRan};
+ghost use Rattle.factor.specs.PaddedBlocks.{paddedBlock};
+ghost use Rattle.factor.specs.RunReplies.{GivesAsked};
+ghost use Rattle.rectanglerun.specs.Runs.{Matched, sizeOf, jointRunBy, jointRan};
+ghost use Rattle.rectanglerun.specs.Turns.{Refused};
 use crate::ends::load;
 use crate::ends::stop_of;
 use crate::ends::store;
 use crate::runs::run_stages;
+use factor::block::copy_front;
 use factor::bounds::is_inside;
 use factor::run::Run;
+use factor::run::nth_start;
 use factor::run::number_of;
+use offender::input::first_beyond;
+use offender::stage::joint_element;
 use rules::Answer;
 use rules::Block;
 use rules::Sheet;
+use sheetread::factors::count_at;
+
+// 11 or 13 at a stage. The element is looked for only here, where the run is refused, and only if it is asked for. The rows of
+// the refused stage lie over the block before it, so the stages before it are taken once more, in b, which is all 0.
+fn refuse(
+    named: bool,
+    run: Run,
+    col: &[i32],
+    row: &[i32],
+    columns: &[u16; Sheet::FACTORS],
+    rows: &[u16; Sheet::FACTORS],
+    x: &[i32],
+    stage: usize,
+    b: &mut [i32; Block::CELLS],
+) -> Answer
+    requires { ⌜ Matched (now col) (now row) × Starts (now col) (now columns) × Starts (now row) (now rows)
+        × (length (now x) ≡ inputsOf (run .task) (sizeOf (now col) (now row)))
+        × (inside bound (length (now x)) (now x) ≡ true) × (now b ≡ replicate mostCells (pos 0))
+        × (1 ≤ stage) × (stage ≤ count (now col) 1)
+        × Refused (jointRunBy run (now col) (now row) (paddedBlock mostCells (now x))) stage ⌝ }
+    ensures { λ a. ⌜ (a .number ≡ numberOf (run .task)) × (named ≡ true → a ≡ ranAnswer (numberOf (run .task))
+        (jointRunBy run (now (col .entry)) (now (row .entry)) (paddedBlock mostCells (now (x .entry))))) ⌝ }
+{
+    let task = run.task;
+    if !named {
+        return Answer::refused(number_of(task), 0, stage as u64);
+    }
+    let t = stage - 1;
+    let n1 = count_at(col, 0);
+    let n2 = count_at(row, 0);
+    copy_front(x, b, x.len());
+    run_stages(run, col, row, columns, rows, n1, n2, 0, t, b);
+    let i = nth_start(task, col, columns, t);
+    let j = nth_start(task, row, rows, t);
+    let e = joint_element(run, col, row, n1, n2, i, j, b);
+    Answer::refused_at(number_of(task), 0, stage as u64, e as u64)
+}
 
 // 11 or 13, or what the run gives in y. For allowances no numbers are lent: the block is all 0, which is where allowances start.
 pub fn run_block(
+    named: bool,
     run: Run,
     col: &[i32],
     row: &[i32],
@@ -31,20 +81,23 @@ pub fn run_block(
     requires { ⌜ Matched (now col) (now row) × Starts (now col) (now columns) × Starts (now row) (now rows)
         × (length (now x) ≡ inputsOf (run .task) (sizeOf (now col) (now row)))
         × (length (now y) ≡ sizeOf (now col) (now row)) ⌝ }
-    ensures { λ a. ⌜ Gives a (now (y .exit))
+    ensures { λ a. ⌜ GivesAsked named a (now (y .exit))
         (ranReply (numberOf (run .task)) (jointRan run (now (col .entry)) (now (row .entry)) (now (x .entry)))
         (now (y .entry))) ⌝ }
 {
     if !is_inside(x) {
-        return Answer::refused(11, 0, 0);
+        return Answer::refused_at(11, 0, 0, first_beyond(x) as u64);
     }
     let task = run.task;
     let mut b = [0i32; Block::CELLS];
     let from = load(run, col, row, columns, rows, x, &mut b);
     let to = stop_of(task, col, columns, from);
-    let r = run_stages(run, col, row, columns, rows, from, to, &mut b);
+    let n1 = count_at(col, 0);
+    let n2 = count_at(row, 0);
+    let r = run_stages(run, col, row, columns, rows, n1, n2, from, to, &mut b);
     if !r.ok {
-        return Answer::refused(number_of(task), 0, r.stage as u64);
+        b = [0i32; Block::CELLS];
+        return refuse(named, run, col, row, columns, rows, x, r.stage, &mut b);
     }
     store(run, col, row, columns, rows, to, &b, y);
     Answer::accepted()

@@ -14,7 +14,6 @@ use factor::run::Run;
 use factor::run::nth_start;
 use rules::Block;
 use rules::Sheet;
-use sheetread::factors::count_at;
 
 // The stages from turn from up to turn to, first to last, or, for an inverse run, last to first: the block after them, or the
 // stage that is refused.
@@ -24,18 +23,19 @@ pub fn run_stages(
     row: &[i32],
     columns: &[u16; Sheet::FACTORS],
     rows: &[u16; Sheet::FACTORS],
+    n1: usize,
+    n2: usize,
     from: usize,
     to: usize,
     x: &mut [i32; Block::CELLS],
 ) -> Outcome
     requires { ⌜ Matched (now col) (now row) × Starts (now col) (now columns) × Starts (now row) (now rows)
-        × (from ≤ to) × (to ≤ count (now col) 1) × Bounded (limitOf (run .task)) (now x) × (length (now x) ≡ mostCells) ⌝ }
+        × (n1 ≡ count (now col) 0) × (n2 ≡ count (now row) 0) × (from ≤ to) × (to ≤ count (now col) 1)
+        × Bounded (limitOf (run .task)) (now x) × (length (now x) ≡ mostCells) ⌝ }
     ensures { λ r. ⌜ Progress run (now (col .entry)) (now (row .entry)) from to (now (x .entry)) r (now (x .exit))
         × (length (now (x .exit)) ≡ mostCells) ⌝ }
 {
     let task = run.task;
-    let n1 = count_at(col, 0);
-    let n2 = count_at(row, 0);
     for t in from..to {
         let i = nth_start(task, col, columns, t);
         let j = nth_start(task, row, rows, t);

@@ -8,7 +8,7 @@ ghost use Rattle.rules.specs.Shapes.{jointStage};
 ghost use Rattle.factor.specs.SumBounds.{Bounded};
 ghost use Rattle.factor.specs.Tasks.{limitOf, takenBy};
 ghost use Rattle.factor.specs.Steps.{Step};
-ghost use Rattle.rectanglerun.specs.StagesAgree.{Paired};
+ghost use Rattle.factor.specs.LayoutInSheet.{Paired};
 use crate::allowances::allow_rows;
 use crate::singles::apply_single_rows;
 use crate::singles::undo_single_rows;

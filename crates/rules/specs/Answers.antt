@@ -15,13 +15,17 @@ use Rattle.rules.specs.Factors.{numbers}
 
 -- "Accepted: 0, 0, and the place is 0, or the count written for a call that can answer 15"
 abbrev pub accepted : Answer
-accepted = record { number = 0; side = 0; place = 0 }
+accepted = record { number = 0; side = 0; place = 0; element = 0 }
 
 abbrev pub counted : ℕ → Answer
-counted n = record { number = 0; side = 0; place = n }
+counted n = record { number = 0; side = 0; place = n; element = 0 }
 
 abbrev pub refused : ℕ → ℕ → ℕ → Answer
-refused number side place = record { number = number; side = side; place = place }
+refused number side place = record { number = number; side = side; place = place; element = 0 }
+
+-- request R-7: "The answer gains an element number, counted row by row, for refusal 11"; "It is 0 in every other answer"
+abbrev pub refusedAt : ℕ → ℕ → ℕ → ℕ → Answer
+refusedAt number side place element = record { number = number; side = side; place = place; element = element }
 
 -- an answer that is no refusal gives way to the next one
 infixr 20 _or-else_

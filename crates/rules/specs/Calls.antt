@@ -14,7 +14,7 @@ use Rattle.rules.specs.declared.Rule.the-variants.{Nearest, Down, Even}
 use Rattle.rules.specs.Stages.{Stage, Ran, done, beyond, runForward, runInverse, runAllowance}
 use Rattle.rules.specs.Shapes.{lineStages, jointStages}
 use Rattle.rules.specs.Recipes.{packed, numbersOf, leftOf}
-use Rattle.rules.specs.Answers.{accepted, counted, refused, _or-else_, checked, pairChecked}
+use Rattle.rules.specs.Answers.{accepted, counted, refused, refusedAt, _or-else_, checked, pairChecked}
 
 pub record Reply (A : Type 0) : Type 0 where
   pub answer : Answer
@@ -121,14 +121,14 @@ ruled k call p = call (ruleOf k) (under k p)
 abbrev pub sized : {A : Type 0} → ℕ → ℕ → List A → Answer
 sized side n v = cond (eqb (length v) n) accepted (refused 10 side 0)
 
--- 11 and 13, at the first stage
+-- 11 and 13, at the first stage, with its element
 unfoldable pub ranAnswer : ℕ → Ran → Answer
 ranAnswer number (done v) = accepted
-ranAnswer number (beyond s) = refused number 0 s
+ranAnswer number (beyond s e) = refusedAt number 0 s e
 
 unfoldable pub ranMemory : Ran → List ℤ → List ℤ
 ranMemory (done v) y = v
-ranMemory (beyond s) y = y
+ranMemory (beyond s e) y = y
 
 -- "12, 10 for the input, 10 for the output, then 11"; the output is written at the end
 unfoldable pub runReply : Plan → Ran → List ℤ → List ℤ → Reply ℤ

@@ -14,13 +14,14 @@ use Rattle.rules.specs.Sheets.{reading}
 use Rattle.rules.specs.Factors.{Factor, numbers, signsAt, above, entriesBefore, factorAt, factorsFrom, factors, hasEntry}
 use Rattle.rules.specs.Factors.{matrix}
 use Rattle.rules.specs.declared.Rule.the-variants.{Nearest, Down, Even}
-use Rattle.rules.specs.Stages.{toEven, R, share, ceiling, fill, inside, off, weighed, multiples, putBack, forward, recover}
+use Rattle.rules.specs.Stages.{toEven, R, share, ceiling, fill, inside, those, offender, off, weighed, multiples, putBack}
+use Rattle.rules.specs.Stages.{forward, recover}
 use Rattle.rules.specs.Stages.{undo}
-use Rattle.rules.specs.Stages.{allow, later, run, runForward, runInverse, runAllowance}
-use Rattle.rules.specs.Shapes.{those, byTurn, turn, order, inRow, stageOf, lineStage, lineStages, jointSource, jointSign}
+use Rattle.rules.specs.Stages.{allow, later, run, recovery, runForward, runInverse, runAllowance}
+use Rattle.rules.specs.Shapes.{byTurn, turn, order, inRow, stageOf, lineStage, lineStages, jointSource, jointSign}
 use Rattle.rules.specs.Shapes.{jointWeight, jointShared, jointStage, jointStages}
 use Rattle.rules.specs.Recipes.{code, value, spell, group, groups, packed, unpack, left, written}
-use Rattle.rules.specs.Answers.{_or-else_, accepted, counted, refused, further, first, matching, pairChecked}
+use Rattle.rules.specs.Answers.{_or-else_, accepted, counted, refused, refusedAt, further, first, matching, pairChecked}
 use Rattle.rules.specs.Strips.{StripReply, stripAnswer, outputs, bytesOf, strip}
 use Rattle.rules.specs.Calls.{Reply, reply, read, write, builtIn, firstPrinting, writeTable, line, joint, ranAnswer}
 use Rattle.rules.specs.Calls.{ranMemory, runReply, forwardCall, inverseCall, allowanceCall, ruleOf, ruled}
@@ -57,13 +58,13 @@ neg n = negℤ (pos n)
 abbrev pub two : ℤ → ℤ → List ℤ
 two x y = x ∷ y ∷ []
 
-abbrev three : ℤ → ℤ → ℤ → List ℤ
+abbrev pub three : ℤ → ℤ → ℤ → List ℤ
 three x y z = x ∷ y ∷ z ∷ []
 
-abbrev four : ℤ → ℤ → ℤ → ℤ → List ℤ
+abbrev pub four : ℤ → ℤ → ℤ → ℤ → List ℤ
 four x y z t = x ∷ y ∷ z ∷ t ∷ []
 
-abbrev nines : ℕ → List ℤ
+abbrev pub nines : ℕ → List ℤ
 nines n = replicate n (pos 9)
 
 abbrev blocks₃ : ℤ → ℤ → ℤ → ℤ → List ℤ
@@ -124,7 +125,7 @@ table =
     ∷ gives (allowanceCall Nearest (line d) (three (pos 0) (pos 0) (pos 0))) accepted (three (pos 0) (pos 2048) (pos 0))
     -- e: "(16777215,0) accepted; (16777215,1) refused 11 at stage 1; (16777216,0) at stage 0; allowance 0, 0"
     ∷ gives (forwardCall Nearest (line e) (two (pos 16777215) (pos 0)) found₂) accepted (two (pos 16777215) (pos 16777215))
-    ∷ gives (forwardCall Nearest (line e) (two (pos 16777215) (pos 1)) found₂) (refused 11 0 1) found₂
+    ∷ gives (forwardCall Nearest (line e) (two (pos 16777215) (pos 1)) found₂) (refusedAt 11 0 1 1) found₂
     ∷ gives (forwardCall Nearest (line e) (two (pos 16777216) (pos 0)) found₂) (refused 11 0 0) found₂
     ∷ gives (allowanceCall Nearest (line e) found₂) accepted (two (pos 0) (pos 0))
     -- f: "sheet a on both sides: rows (1,1),(0,0) to (1,2),(1,1)", and back
@@ -190,12 +191,11 @@ table =
 -- every case shows what document 01 prints
 pub figures : map (λ (f : Figure). f .found) table ≡ map (λ (f : Figure). f .printed) table
 unfolding table sum go times among faultOf one kindOf triangle weights body factor closed head reading numbers signsAt above
-    entriesBefore factorAt factorsFrom factors hasEntry matrix toEven R share ceiling fill inside off weighed multiples putBack
-    forward
-    recover undo allow later run runForward runInverse runAllowance those byTurn turn order inRow stageOf lineStage lineStages
-    jointSource jointSign jointWeight jointShared jointStage jointStages code value spell group groups packed unpack left
-    _or-else_ further first matching pairChecked reply read write writeTable line joint ranAnswer ranMemory runReply forwardCall
-    inverseCall allowanceCall ruleOf stripAnswer outputs bytesOf strip
+    entriesBefore factorAt factorsFrom factors hasEntry matrix toEven R share ceiling fill inside offender off weighed multiples
+    putBack forward recover undo allow later run recovery runForward runInverse runAllowance those byTurn turn order inRow stageOf
+    lineStage lineStages jointSource jointSign jointWeight jointShared jointStage jointStages code value spell group groups packed
+    unpack left _or-else_ further first matching pairChecked reply read write writeTable line joint ranAnswer ranMemory runReply
+    forwardCall inverseCall allowanceCall ruleOf stripAnswer outputs bytesOf strip
 figures = refl
 
 -- the recovery orders of a rectangle of three by three, kind 4 with rows 1 and 2

@@ -6,6 +6,7 @@ pub mod Inverses
 pub mod Runs
 pub mod AllowanceLaw
 pub mod RecoveryOrder
+pub mod Offenders
 pub mod Pigeon
 pub mod Rectangles
 pub mod Kinds

@@ -10,14 +10,18 @@ use Rattle.rules.specs.Sheets.{go, times, among, faultOf, one, kindOf, t
 use Rattle.rules.specs.Sheets.{reading}
 use Rattle.rules.specs.Factors.{numbers, signsAt, above, entriesBefore, factorAt, factorsFrom, factors, hasEntry, matrix}
 use Rattle.rules.specs.declared.Rule.the-variants.{Nearest}
-use Rattle.rules.specs.Stages.{R, share, ceiling, fill, inside, off, weighed, multiples, putBack, forward, recover, undo}
-use Rattle.rules.specs.Stages.{allow, later, run, runForward, runInverse, runAllowance}
-use Rattle.rules.specs.Shapes.{those, byTurn, turn, order, inRow, stageOf, lineStage, lineStages, jointStages}
+use Rattle.rules.specs.Stages.{R, share, ceiling, fill, inside, those, offender, off, weighed, multiples, putBack, forward}
+use Rattle.rules.specs.Stages.{recover, undo}
+use Rattle.rules.specs.Stages.{allow, later, run, recovery, runForward, runInverse, runAllowance}
+use Rattle.rules.specs.Shapes.{byTurn, turn, order, inRow, stageOf, lineStage, lineStages, jointSource, jointSign}
+use Rattle.rules.specs.Shapes.{jointWeight, jointShared, jointStage, jointStages}
 use Rattle.rules.specs.Recipes.{code, value, spell, group, groups, packed, unpack, left}
-use Rattle.rules.specs.Answers.{_or-else_, accepted, refused, checked, further, first, matching, pairChecked}
-use Rattle.rules.specs.Calls.{reply, read, write, line, joint, ranAnswer, ranMemory, runReply, forwardCall, inverseCall}
+use Rattle.rules.specs.Answers.{_or-else_, accepted, refused, refusedAt, checked, further, first, matching, pairChecked}
+use Rattle.rules.specs.Calls.{Reply, reply, read, write, Plan, line, joint, ranAnswer, ranMemory, runReply, forwardCall}
+use Rattle.rules.specs.Calls.{inverseCall}
 use Rattle.rules.specs.Calls.{allowanceCall, ruled}
-use Rattle.rules.specs.Figures.{Figure, answer-of, gives, spells, neg, two, found₂, found₄, a, a-bytes, b, d, e}
+use Rattle.rules.specs.Figures.{Figure, answer-of, gives, spells, neg, two, three, four, nines, found₂, found₄, a, a-bytes}
+use Rattle.rules.specs.Figures.{b, d, e}
 
 -- what the check of a sheet answers, and that of a column and a row sheet
 abbrev checks : List ℤ → Answer → Figure
@@ -49,6 +53,46 @@ turns (suc n) = lower (pos 1) (pos 1) (pos 16366) ++ upper (pos 1) (pos 1) (pos 
 
 abbrev growing : ℤ → ℤ → List ℤ
 growing x y = sheet₂ 10 (turns 4 ++ lower (pos 1) (pos 1) x ++ upper (pos 1) (pos 1) y)
+
+-- factors of order 3 whose entries are 0 and 1
+abbrev lower₃ : List ℤ
+lower₃ = pos 2 ∷ pos 1 ∷ pos 1 ∷ pos 1 ∷ pos 4096 ∷ pos 4096 ∷ pos 0 ∷ []
+
+abbrev upper₃ : List ℤ
+upper₃ = pos 3 ∷ pos 1 ∷ pos 1 ∷ pos 1 ∷ pos 0 ∷ pos 4096 ∷ pos 4096 ∷ []
+
+abbrev single₃ : List ℤ
+single₃ = pos 4 ∷ pos 1 ∷ pos 1 ∷ pos 1 ∷ pos 1 ∷ pos 4096 ∷ pos 4096 ∷ []
+
+abbrev turned₃ : List ℤ
+turned₃ = pos 1 ∷ pos 2 ∷ pos 0 ∷ pos 1 ∷ []
+
+abbrev sheet₃ : ℕ → List ℤ → List ℤ
+sheet₃ n fs = pos 3 ∷ pos n ∷ fs
+
+abbrev ones : (ℤ → ℤ → ℤ → List ℤ) → List ℤ
+ones factor = sheet₂ 1 (factor (pos 1) (pos 1) (pos 4096))
+
+-- the largest number in bound, the next, and the least in bound
+abbrev top : ℤ
+top = pos 16777215
+
+abbrev over : ℤ
+over = pos 16777216
+
+abbrev bottom : ℤ
+bottom = neg 16777215
+
+-- a block of three by three, and a lent slice of three
+abbrev nine : ℤ → ℤ → ℤ → ℤ → List ℤ
+nine x y z t = x ∷ y ∷ pos 0 ∷ z ∷ t ∷ pos 0 ∷ pos 0 ∷ pos 0 ∷ pos 0 ∷ []
+
+abbrev found₃ : List ℤ
+found₃ = three (pos 9) (pos 9) (pos 9)
+
+-- a run refused 11 at a stage for an element, line and pair
+abbrev names : (Plan → List ℤ → List ℤ → Reply ℤ) → Plan → List ℤ → List ℤ → ℕ → ℕ → Figure
+names call p x y stage element = gives (call p x y) (refusedAt 11 0 stage element) y
 
 pub table : List Figure
 table =
@@ -118,12 +162,39 @@ table =
     ∷ gives (forwardCall Nearest (line a) (pos 16777216 ∷ []) found₂) (refused 10 0 0) found₂
     ∷ gives (forwardCall Nearest (joint a a) (two (pos 1) (pos 1)) found₄) (refused 10 0 0) found₄
     -- 11 of an inverse run: the "stage" counts the factors undone, the last factor first
-    ∷ gives (inverseCall Nearest (line e) (two (pos 16777215) (neg 1)) found₂) (refused 11 0 1) found₂
+    ∷ gives (inverseCall Nearest (line e) (two (pos 16777215) (neg 1)) found₂) (refusedAt 11 0 1 1) found₂
     ∷ gives
     (inverseCall Nearest (line (sheet₂ 2 (lower (pos 1) (pos 1) (pos 4096) ++ permutation (pos 0) (pos 1))))
     (two (pos 16777215) (neg 1)) found₂)
-    (refused 11 0 2) found₂
-    -- 13: "allowance above its limit at some element", at the "first stage"; one of 67108863 is accepted, 67108864 is refused
+    (refusedAt 11 0 2 1) found₂
+    -- 11 of request R-7: with several numbers beyond the bound, "in a forward run and at stage 0 the first offending element in
+    -- reading order, in an inverse run the first in 01's recovery order for that factor". Stage 0, forward and back
+    ∷ names (forwardCall Nearest) (line (sheet₃ 1 upper₃)) (three (pos 0) over (neg 16777216)) found₃ 0 1
+    ∷ names (inverseCall Nearest) (line (sheet₃ 1 upper₃)) (three (pos 0) over (neg 16777216)) found₃ 0 1
+    ∷ names (inverseCall Nearest) (joint (ones upper) (ones upper)) (four (pos 0) over (pos 0) (neg 16777216)) found₄ 0 1
+    -- a line: kind 2 from the top both ways; kind 3 from the top, back from the bottom; kind 4 with r in the middle
+    ∷ names (forwardCall Nearest) (line (sheet₃ 1 lower₃)) (three (pos 1) top top) found₃ 1 1
+    ∷ names (inverseCall Nearest) (line (sheet₃ 1 lower₃)) (three (neg 1) top top) found₃ 1 1
+    ∷ names (forwardCall Nearest) (line (sheet₃ 1 upper₃)) (three top top (pos 1)) found₃ 1 0
+    ∷ names (inverseCall Nearest) (line (sheet₃ 1 upper₃)) (three top top (neg 1)) found₃ 1 1
+    ∷ names (forwardCall Nearest) (line (sheet₃ 1 single₃)) (three (pos 1) top (pos 0)) found₃ 1 1
+    ∷ names (inverseCall Nearest) (line (sheet₃ 1 single₃)) (three (neg 1) top (pos 0)) found₃ 1 1
+    -- at stage 2, after a permutation
+    ∷ names (forwardCall Nearest) (line (sheet₃ 2 (turned₃ ++ upper₃))) (three top (pos 1) top) found₃ 2 0
+    ∷ names (inverseCall Nearest) (line (sheet₃ 2 (upper₃ ++ turned₃))) (three (neg 1) top top) found₃ 2 1
+    -- a rectangle, its elements counted row by row over the whole block
+    ∷ names (forwardCall Nearest) (joint e e) (four (pos 1) top top bottom) found₄ 1 1
+    ∷ names (inverseCall Nearest) (joint e e) (four (neg 1) top top top) found₄ 1 1
+    ∷ names (forwardCall Nearest) (joint (ones upper) (ones upper)) (four bottom top top (pos 1)) found₄ 1 0
+    ∷ names (inverseCall Nearest) (joint (ones upper) (ones upper)) (four top top top (neg 1)) found₄ 1 2
+    -- kind 4: both (0,0) of column q and (1,1) of row r lie beyond, and row r comes first; r and q in the middle: (0,1) of column
+    -- q and (1,0) of row r
+    ∷ names (forwardCall Nearest) (joint (ones (single (pos 1))) (ones (single (pos 0)))) (four top (pos 1) bottom top) found₄ 1 0
+    ∷ names (inverseCall Nearest) (joint (ones (single (pos 1))) (ones (single (pos 0)))) (four top (neg 1) top top) found₄ 1 3
+    ∷ names (forwardCall Nearest) (joint (sheet₃ 1 single₃) (sheet₃ 1 single₃)) (nine (pos 1) top top bottom) (nines 9) 1 1
+    ∷ names (inverseCall Nearest) (joint (sheet₃ 1 single₃) (sheet₃ 1 single₃)) (nine (neg 1) top top top) (nines 9) 1 3
+    -- 13: "allowance above its limit at some element", at the "first stage"; it names no element. One of 67108863 is accepted,
+    -- 67108864 is refused
     ∷ gives (allowanceCall Nearest (line (growing (pos 1768) (pos 533))) found₂) accepted (two (pos 67108863) (pos 41240528))
     ∷ gives (allowanceCall Nearest (line (growing (pos 1996) (pos 492))) found₂) (refused 13 0 10) found₂
     ∷ gives (allowanceCall Nearest (line (growing (pos 16384) (pos 16384))) found₂) (refused 13 0 9) found₂
@@ -153,8 +224,9 @@ table =
 -- every case answers what document 01 says
 pub refusals : map (λ (f : Figure). f .found) table ≡ map (λ (f : Figure). f .printed) table
 unfolding table turns sum go times among faultOf one kindOf triangle weights body factor closed head reading numbers signsAt above
-    entriesBefore factorAt factorsFrom factors hasEntry matrix R share ceiling fill inside off weighed multiples putBack forward
-    recover undo allow later run runForward runInverse runAllowance those byTurn turn order inRow stageOf lineStage lineStages
-    jointStages code value spell group groups packed unpack left _or-else_ further first matching pairChecked reply read write
-    line joint ranAnswer ranMemory runReply forwardCall inverseCall allowanceCall
+    entriesBefore factorAt factorsFrom factors hasEntry matrix R share ceiling fill inside offender off weighed multiples putBack
+    forward recover undo allow later run recovery runForward runInverse runAllowance those byTurn turn order inRow stageOf
+    lineStage lineStages jointSource jointSign jointWeight jointShared jointStage jointStages code value spell group groups packed
+    unpack left _or-else_ further first matching pairChecked reply read write line joint ranAnswer ranMemory runReply forwardCall
+    inverseCall allowanceCall
 refusals = refl

@@ -1,5 +1,5 @@
 -- "FACTOR RULES IN ONE DIMENSION" and "TWO DIMENSIONS" of document 01: the stages of a line and of a rectangle.
-use mathlib.Core.Bool.{Bool, cond}
+use mathlib.Core.Bool.{cond}
 use mathlib.Core.List.{List, [], _∷_, _++_}
 use Prim.Native.Nat.{ℕ, zero, suc, _+_, _-_, _*_, _/_, _%_}
 use lib.Dec.{eqb}
@@ -8,14 +8,9 @@ use Rattle.rules.specs.declared.Kind.{Kind}
 use Rattle.rules.specs.declared.Kind.the-variants.{Permutation, Lower, Upper, Single}
 use Rattle.rules.specs.Numbers.{unit, unit²}
 use Rattle.rules.specs.Factors.{Factor, matrix}
-use Rattle.rules.specs.Stages.{Stage, move, weigh}
+use Rattle.rules.specs.Stages.{those, Stage, move, weigh}
 
 -- ---- the recovery order
--- the numbers below n that pass a test, upward
-unfoldable pub those : (ℕ → Bool) → ℕ → List ℕ
-those test zero = []
-those test (suc n) = those test n ++ cond (test n) (n ∷ []) []
-
 -- the elements below N of turn 0, then those of turn 1, .. those of turn T - 1; of one turn in reading order
 unfoldable pub byTurn : ℕ → ℕ → (ℕ → ℕ) → List ℕ
 byTurn N zero turn = []

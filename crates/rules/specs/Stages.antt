@@ -2,7 +2,7 @@
 -- rectangle.
 -- N numbers go through a list of stages: N is n for a line, n1·n2 for a rectangle in reading order.
 use mathlib.Core.Bool.{Bool, true, false, cond}
-use mathlib.Core.List.{List, [], _∷_, reverse}
+use mathlib.Core.List.{List, [], _∷_, _++_, reverse}
 use mathlib.Core.Path.{_≡_}
 use Prim.Native.Nat.{ℕ, zero, suc, _+_, _-_, _*_, _/_, _%_, _≤_}
 use lib.Dec.{eqb, leb}
@@ -62,6 +62,19 @@ unfoldable pub inside : ℕ → ℕ → List ℤ → Bool
 inside most zero v = true
 inside most (suc n) v = cond (leb (natAbs (at v n)) most) (inside most n v) false
 
+-- the numbers below n that pass a test, upward; all of them: the elements of a block in reading order
+unfoldable pub those : (ℕ → Bool) → ℕ → List ℕ
+those test zero = []
+those test (suc n) = those test n ++ cond (test n) (n ∷ []) []
+
+abbrev pub upTo : ℕ → List ℕ
+upTo n = those (λ e. true) n
+
+-- request R-7, "Which sample was too large": along an order, the first element whose number lies beyond most; 0 if there is none
+unfoldable pub offender : ℕ → List ℕ → List ℤ → ℕ
+offender most [] v = 0
+offender most (e ∷ es) v = cond (leb (natAbs (at v e)) most) (offender most es v) e
+
 -- ---- a stage: a move, out(e) = in(source e), or a weighing, whose weights count in 1/scale; order is the recovery order
 pub data Stage : Type 0 where
   move : (scale : ℕ) (source : ℕ → ℕ) → Stage
@@ -120,37 +133,54 @@ exact N (move S p) x = fill N (λ e. pos S *ℤ at x (p e)) x
 exact N (weigh S d w o) x = fill N (λ e. (pos S *ℤ (d e *ℤ at x e)) +ℤ weighed N (off w e) x) x
 
 -- ---- runs
--- "Stage 0 is the input; stage s is the vector after s factors": the last list, or the first stage that is refused
+-- "Stage 0 is the input; stage s is the vector after s factors": the last list, or the first stage that is refused and an element
+-- of it
 pub data Ran : Type 0 where
   done : List ℤ → Ran
-  beyond : (stage : ℕ) → Ran
+  beyond : (stage element : ℕ) → Ran
 
 -- a refusal n stages later
 unfoldable pub later : ℕ → Ran → Ran
 later n (done v) = done v
-later n (beyond s) = beyond (n + s)
+later n (beyond s e) = beyond (n + s) e
 
--- "A run is refused exactly if some stage has a number beyond the bound, at the first such stage"
-unfoldable pub run : (List ℤ → Bool) → (Stage → List ℤ → List ℤ) → List Stage → List ℤ → Ran
-run ok step [] v = cond (ok v) (done v) (beyond 0)
-run ok step (s ∷ ss) v = cond (ok v) (later 1 (run ok step ss (step s v))) (beyond 0)
+-- "A run is refused exactly if some stage has a number beyond the bound, at the first such stage". `name` gives the element of
+-- the list as it stands, `names s` that of a list after stage s
+module _ (ok : List ℤ → Bool) (step : Stage → List ℤ → List ℤ) (names : Stage → List ℤ → ℕ) where
+  unfoldable pub run : (List ℤ → ℕ) → List Stage → List ℤ → Ran
+  run name [] v = cond (ok v) (done v) (beyond 0 (name v))
+  run name (s ∷ ss) v = cond (ok v) (later 1 (run (names s) ss (step s v))) (beyond 0 (name v))
 
 -- the same, nothing tested
 unfoldable pub through : (Stage → List ℤ → List ℤ) → List Stage → List ℤ → List ℤ
 through step [] v = v
 through step (s ∷ ss) v = through step ss (step s v)
 
+-- the recovery order of a stage; that of a move cannot be seen: it makes no number
+unfoldable pub recovery : ℕ → Stage → List ℕ
+recovery N (move S p) = upTo N
+recovery N (weigh S d w o) = o
+
+-- R-7: "in a forward run and at stage 0 the first offending element in reading order, in an inverse run the first in 01's
+-- recovery order for that factor"
+abbrev pub firstRead : ℕ → List ℤ → ℕ
+firstRead N v = offender bound (upTo N) v
+
+abbrev pub firstRecovered : ℕ → Stage → List ℤ → ℕ
+firstRecovered N s v = offender bound (recovery N s) v
+
 module _ (rule : Rule) (N : ℕ) (ss : List Stage) where
   unfoldable pub runForward : List ℤ → Ran
-  runForward x = run (inside bound N) (forward rule N) ss x
+  runForward x = run (inside bound N) (forward rule N) (λ s. firstRead N) (firstRead N) ss x
 
   -- the last factor is undone first
   unfoldable pub runInverse : List ℤ → Ran
-  runInverse y = run (inside bound N) (undo rule N) (reverse ss) y
+  runInverse y = run (inside bound N) (undo rule N) (firstRecovered N) (firstRead N) (reverse ss) y
 
-  -- "All allowances start at 0"; refused at the first stage with one above the limit
+  -- "All allowances start at 0"; refused at the first stage with one above the limit; R-7: the element "is 0 in every other
+  -- answer"
   unfoldable pub runAllowance : Ran
-  runAllowance = run (inside mostAllowance N) (allow rule N) ss (replicate N (pos 0))
+  runAllowance = run (inside mostAllowance N) (allow rule N) (λ s v. 0) (λ v. 0) ss (replicate N (pos 0))
 
 -- "giving E at scale D"
 unfoldable pub exactProduct : ℕ → List Stage → List ℤ → List ℤ

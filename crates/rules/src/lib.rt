@@ -1,7 +1,7 @@
 // The types of document 01: what a sheet and a block may hold, and what a call answers.
 // The definitions of specs/ speak of these types; the crates above compute with them.
 ghost use mathlib.Core.Path.{_≡_};
-ghost use Rattle.rules.specs.Answers.{accepted, counted, refused};
+ghost use Rattle.rules.specs.Answers.{accepted, counted, refused, refusedAt};
 
 // A sheet: the numbers of one recipe. The limits of "Numbers and their bounds" that bound a sheet's numbers are named here. A
 // call is lent a sheet as a slice, so the type has no fields.
@@ -125,12 +125,13 @@ impl Spelt {
     pub const TWO_GROUPS: u32 = Self::GROUP * Self::GROUP;
 }
 
-// What each call answers.
+// What each call answers. The element is that of a block, counted row by row, whose number lies beyond the bound.
 #[repr(C)]
 pub struct Answer {
     pub number: u32,
     pub side: u32,
     pub place: u64,
+    pub element: u64,
 }
 
 impl Answer {
@@ -141,6 +142,7 @@ impl Answer {
             number: 0,
             side: 0,
             place: 0,
+            element: 0,
         }
     }
 
@@ -152,6 +154,7 @@ impl Answer {
             number: 0,
             side: 0,
             place: count,
+            element: 0,
         }
     }
 
@@ -162,6 +165,19 @@ impl Answer {
             number,
             side,
             place,
+            element: 0,
+        }
+    }
+
+    // Refused for the number of an element.
+    pub fn refused_at(number: u32, side: u32, place: u64, element: u64) -> Self
+        ensures { λ r. ⌜ r ≡ refusedAt number side place element ⌝ }
+    {
+        Answer {
+            number,
+            side,
+            place,
+            element,
         }
     }
 }

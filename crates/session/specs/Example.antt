@@ -5,8 +5,8 @@ use Prim.Native.Nat.{ℕ}
 use Rattle.rules.specs.Sheets.{go, times, among, faultOf, one, kindOf, triangle, weights, body, factor, closed, head, reading}
 use Rattle.rules.specs.Factors.{numbers, signsAt, above, entriesBefore, factorAt, factorsFrom, factors, hasEntry, matrix}
 use Rattle.rules.specs.Stages.{R, share, ceiling, fill, inside, off, weighed, multiples, putBack, forward, recover, undo, allow}
-use Rattle.rules.specs.Stages.{later, run, runForward, runInverse, runAllowance}
-use Rattle.rules.specs.Shapes.{those, byTurn, turn, order, inRow, stageOf, lineStage, lineStages, jointSource, jointSign}
+use Rattle.rules.specs.Stages.{those, later, run, runForward, runInverse, runAllowance}
+use Rattle.rules.specs.Shapes.{byTurn, turn, order, inRow, stageOf, lineStage, lineStages, jointSource, jointSign}
 use Rattle.rules.specs.Shapes.{jointWeight, jointShared, jointStage, jointStages}
 use Rattle.rules.specs.Recipes.{code, value, spell, group, groups, packed, unpack, left}
 use Rattle.rules.specs.Answers.{_or-else_, further, first, matching, pairChecked}

@@ -17,6 +17,8 @@ use Rattle.laws.specs.CutLaw.{line-cut, joint-cut, ruled-cut}
 use Rattle.laws.specs.Accepted.{both-fine}
 use Rattle.laws.specs.Plans.{under-plan, line-plan, joint-plan}
 use Rattle.laws.specs.Stated.Calls.{E, D, Accepts}
+use Rattle.laws.specs.Stated.Elements.{NoElement}
+use Rattle.laws.specs.Elements.{line-none, joint-none, under-none, strip-element}
 use Rattle.laws.specs.Promises.{ruled-promises}
 use Rattle.laws.specs.Strips.{forward-block, inverse-block, strip-none}
 use Rattle.laws.specs.Stated.Strips.{StripPromises, BlocksBack, CutBlock}
@@ -47,6 +49,17 @@ pub joint-no-rule : (k : ℕ) (c r x y : List ℤ) (b : List ℕ) → 2 < k →
     GivesStrip (refused 16 0 0) y b (ruled k forwardStrip (joint c r) x y b)
     × GivesStrip (refused 16 0 0) y b (ruled k inverseStrip (joint c r) x y b)
 joint-no-rule k c r x y b h = (strip-none k (joint c r) h _ x y b, strip-none k (joint c r) h _ x y b)
+
+-- ---- request R-7: "a strip keeps R-1's bytes", and its answer names no element
+pub line-no-element : (k : ℕ) (s x y : List ℤ) (b : List ℕ) →
+    NoElement (ruled k forwardStrip (line s) x y b .answer) × NoElement (ruled k inverseStrip (line s) x y b .answer)
+line-no-element k s x y b =
+    let none = under-none k (line s) (line-none s) in (strip-element _ none _ x y b, strip-element _ none _ x y b)
+
+pub joint-no-element : (k : ℕ) (c r x y : List ℤ) (b : List ℕ) →
+    NoElement (ruled k forwardStrip (joint c r) x y b .answer) × NoElement (ruled k inverseStrip (joint c r) x y b .answer)
+joint-no-element k c r x y b =
+    let none = under-none k (joint c r) (joint-none c r) in (strip-element _ none _ x y b, strip-element _ none _ x y b)
 
 -- ---- "Demands 2 and 3 read per block": a line
 module _ (k : ℕ) (s : List ℤ) where

@@ -16,7 +16,7 @@ use Rattle.factor.specs.declared.run.Task.{Task}
 use Rattle.factor.specs.declared.run.Task.the-variants.{Forward, Inverse, Allowance}
 use Rattle.factor.specs.declared.run.Run.{Run}
 use Rattle.factor.specs.Tasks.{inputsOf, numberOf, ran, callBy, callOf}
-use Rattle.factor.specs.CallAnswers.{NoneLent, run-is-left, lengths-right}
+use Rattle.factor.specs.CallAnswers.{NoneLent, block-is-run, lengths-right}
 use Rattle.striprun.specs.declared.blocks.Shape.{Shape}
 use Rattle.striprun.specs.declared.blocks.Shape.the-variants.{Line, Joint}
 
@@ -78,7 +78,7 @@ pub block-runs : (r : Run) → TakesBlocks (r .task) → (p : Plan) (x y : List 
     length y ≡ p .size →
     callOf r p x y ≡ ranReply (numberOf (r .task)) (ran r (p .size) (p .stages) x) y
 block-runs r h p x y s l m =
-    run-is-left r p x y (may-lend (r .task) h x) refl s refl
+    block-is-run r p x y (may-lend (r .task) h x) s
     (lengths-right (r .task) (p .size) (length x) (length y) (l ∙ sym (lent-block (r .task) h (p .size))) m)
 
 -- a block of checked sheets has some numbers

@@ -1,8 +1,9 @@
 // One block of a strip, of either shape, over sheets that were checked.
+ghost use mathlib.Core.Bool.{false};
 ghost use mathlib.Core.Path.{_≡_};
 ghost use lib.ListN.{length};
 ghost use Rattle.rules.specs.Numbers.{mostCount};
-ghost use Rattle.rules.specs.Calls.{Gives};
+ghost use Rattle.factor.specs.RunReplies.{GivesAsked};
 ghost use Rattle.factor.specs.Tasks.{callOf};
 ghost use Rattle.striprun.specs.Plans.{planOf, StartsOf, TakesBlocks};
 use factor::run::Run;
@@ -47,7 +48,7 @@ pub fn size_of(shape: Shape, col: &[i32], row: &[i32]) -> usize
     }
 }
 
-// The single call: its output into y, and its answer.
+// The single call: its output into y, and its answer. A byte takes its number alone, so no element is asked for.
 pub fn run_block(
     shape: Shape,
     run: Run,
@@ -63,11 +64,20 @@ pub fn run_block(
         × (length (now x) ≡ planOf shape (now col) (now row) .size)
         × (length (now y) ≡ planOf shape (now col) (now row) .size)
         × StartsOf shape (now col) (now row) (now columns) (now rows) ⌝ }
-    ensures { λ a. ⌜ Gives a (now (y .exit))
+    ensures { λ a. ⌜ GivesAsked false a (now (y .exit))
         (callOf run (planOf shape (now (col .entry)) (now (row .entry))) (now (x .entry)) (now (y .entry))) ⌝ }
 {
     match shape {
-        Shape::Line => return linerun::block::run_block(run, col, columns, x, y),
-        Shape::Joint => return rectanglerun::block::run_block(run, col, row, columns, rows, x, y),
+        Shape::Line => return linerun::block::run_block(false, run, col, columns, x, y),
+        Shape::Joint => return rectanglerun::block::run_block(
+            false,
+            run,
+            col,
+            row,
+            columns,
+            rows,
+            x,
+            y,
+        ),
     }
 }

@@ -141,12 +141,13 @@ pub fn is_between(room: &[i32; ROOM], least: &[i32], most: &[i32]) -> bool {
     true
 }
 
-// Whether an answer is the number, side and place of three words.
-pub fn is_answer(r: Answer, number: i32, side: i32, place: i32) -> bool {
-    if number < 0 || side < 0 || place < 0 {
+// Whether an answer is the number, side, place and element of four words.
+pub fn is_answer(r: Answer, number: i32, side: i32, place: i32, element: i32) -> bool {
+    if number < 0 || side < 0 || place < 0 || element < 0 {
         return false;
     }
     natural(number) == r.number as usize
         && natural(side) == r.side as usize
         && natural(place) as u64 == r.place
+        && natural(element) as u64 == r.element
 }

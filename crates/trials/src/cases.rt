@@ -19,7 +19,7 @@ use trialparts::words::read_words;
 // More cases than any stream has.
 const MANY: u64 = 1000000000;
 
-// The places of a case's parts: where A, B, X and Y end, the answer's side and place, and Y after the call.
+// The places of a case's parts: where A, B, X and Y end, the answer's side, place and element, and Y after the call.
 struct Layout {
     pub a: usize,
     pub b: usize,
@@ -27,6 +27,7 @@ struct Layout {
     pub y: usize,
     pub side: usize,
     pub place: usize,
+    pub element: usize,
     pub after: usize,
     pub end: usize,
 }
@@ -69,8 +70,9 @@ fn lay_out(head: &[i32; 6]) -> Layout {
         y,
         side: y + 1,
         place: y + 2,
-        after: y + 3,
-        end: y + 3 + room,
+        element: y + 3,
+        after: y + 4,
+        end: y + 4 + room,
     }
 }
 
@@ -84,6 +86,7 @@ fn judge(call: usize, rule: u32, c: Layout, w: &[i32]) -> bool {
     let number = at(w, c.y);
     let side = at(w, c.side);
     let place = at(w, c.place);
+    let element = at(w, c.element);
     if call == 3 {
         return is_rest(a, b, number, place);
     }
@@ -93,7 +96,7 @@ fn judge(call: usize, rule: u32, c: Layout, w: &[i32]) -> bool {
     }
     let mut room = load(y);
     let r = answer(call, rule, a, b, x, &mut room[..n]);
-    if !is_answer(r, number, side, place) {
+    if !is_answer(r, number, side, place, element) {
         return false;
     }
     let after = part(w, c.after, c.end);

@@ -8,7 +8,7 @@ use lib.IntN.{ℤ, pos}
 use lib.ListN.{length, take, drop}
 use Rattle.rules.specs.Numbers.{at, count}
 use Rattle.rules.specs.declared.Rule.{Rule}
-use Rattle.rules.specs.Answers.{accepted, refused, start}
+use Rattle.rules.specs.Answers.{accepted, refusedAt, start}
 use Rattle.rules.specs.Calls.{Reply, Plan, forwardCall}
 
 -- the sheet of k factors of s, from factor f on
@@ -22,11 +22,14 @@ cutFront s f = cut s 0 f
 abbrev pub cutBack : List ℤ → ℕ → List ℤ
 cutBack s f = cut s f (count s 1 - f)
 
--- "a refusal of the second part has the first part's count added to its stage"
+-- "a refusal of the second part has the first part's count added to its stage"; R-7: "The cut law covers the element too"
 unfoldable pub farther : ℕ → Reply ℤ → Reply ℤ
 farther f q =
     cond (eqb (q .answer .number) 0) q
-    (record { answer = refused (q .answer .number) (q .answer .side) (f + q .answer .place); memory = q .memory })
+    (record {
+      answer = refusedAt (q .answer .number) (q .answer .side) (f + q .answer .place) (q .answer .element);
+      memory = q .memory;
+    })
 
 -- the call of the first f factors, then, if it is accepted, that of the others on what it left; y is the slice lent at the end
 unfoldable pub inTwo : ℕ → Reply ℤ → (List ℤ → Reply ℤ) → List ℤ → Reply ℤ

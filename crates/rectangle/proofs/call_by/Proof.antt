@@ -1,39 +1,56 @@
--- 16 first (`rule-refuses`), then the call by that rule (`rule-passes`).
+-- The checks refuse (`checks-refuse`), or nothing is left but the run (`run-is-left`).
 use borrow.Author.Needs.{needs}
-use Rattle.rules.specs.Calls.{joint}
-use Rattle.factor.specs.CallAnswers.{rule-refuses, rule-passes}
+use Rattle.rules.specs.Calls.{Plan, joint}
+use Rattle.factor.specs.CallAnswers.{checks-refuse, checks-fine, run-is-left}
+use Rattle.factor.specs.RunReplies.{given-asked}
+use Rattle.rectanglerun.specs.Runs.{matched}
 use Rattle.rectangle.proofs.call_by.Statement.{statement}
 use Rattle.rectangle.proofs.call_by.Tie as tie
 
-check-rule-requires : tie.Need-check-rule-requires
-check-rule-requires c κs = search needs
+-- the plan that is called
+abbrev P : tie.Start → Plan
+P s = joint (s .args .col .now) (s .args .row .now)
+
+check-call-requires : tie.Need-check-call-requires
+check-call-requires c κs = search needs
 
 returns : tie.Need-returns
 returns c =
     let k = c .before .before in
-    let a = k .before .args in
-    rule-refuses (a .task) (a .rule) (joint (a .col .now) (a .row .now)) (a .x .now) (a .y .now) (k .check-rule .ensures)
-    (c .if1 .taken)
+    let s = k .before .before .before in
+    let a = s .args in
+    checks-refuse (a .rule) (a .task) (P s) (a .x .now) (a .y .now) (s .pre) (k .check-call .ensures .0) (c .if1 .taken)
 
 run-by-requires : tie.Need-run-by-requires
 run-by-requires c κs = search needs
 
-call-requires : tie.Need-call-requires
-call-requires c κs = rw (c .before .run-by .ensures) (c .before .before .before .before .before .pre)
+run-block-requires : tie.Need-run-block-requires
+unfolding joint
+run-block-requires c κs =
+    let r = c .before .before .before in
+    let e = r .before in
+    let k = e .before .before in
+    let s = k .before .before .before in
+    let a = s .args in
+    let h = checks-fine (a .rule) (a .task) (P s) (a .x .now) (a .y .now) (s .pre) (k .check-call .ensures .0) (e .if1 .left) in
+    let t = k .check-call .ensures .1 (e .if1 .left) in
+    (matched _ _ (h .0), t .0, t .1, rw (r .run-by .ensures) (h .1), h .2)
 
 same-length : tie.Need-same-length
 same-length c = search needs
 
 returns-2 : tie.Need-returns-2
+unfolding joint
 returns-2 c =
-    let r = c .before .before .before in
+    let b = c .before in
+    let r = b .before .before .before .before in
     let e = r .before in
     let k = e .before .before in
-    let a = k .before .args in
-    rule-passes (a .task) (a .rule) (joint (a .col .now) (a .row .now)) (a .x .now) (a .y .now) (k .check-rule .ensures)
-    (e .if1 .left)
-    (rw (r .run-by .ensures) at (c .before .call .ensures))
+    let s = k .before .before .before in
+    let a = s .args in
+    rw (run-is-left (a .rule) (a .task) (P s) (a .x .now) (a .y .now) (s .pre) (k .check-call .ensures .0) (e .if1 .left))
+    (given-asked (rw (r .run-by .ensures) at (b .run-block .ensures)))
 
 pub call-by-spec : {M : Type 1} → statement M
 call-by-spec =
-    tie.close (tie.spec check-rule-requires returns run-by-requires call-requires same-length returns-2)
+    tie.close (tie.spec check-call-requires returns run-by-requires run-block-requires same-length returns-2)

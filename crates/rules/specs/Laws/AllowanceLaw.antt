@@ -265,7 +265,7 @@ module _ (rule : Rule) where
     kept x y l h e i =
         let k = through-kept good (start N x l) in
         let q : exactScale ss * 1 ≡ exactScale ss = omega arith in
-        rw (q, run-through _ _ ss x y h, run-through _ _ ss (replicate N (pos 0)) b allowed) at (k .each e i)
+        rw (q, run-through _ _ _ _ ss x y h, run-through _ _ _ _ ss (replicate N (pos 0)) b allowed) at (k .each e i)
 
     -- THE ALLOWANCE: every coefficient of an accepted run lies within its allowance b (counted in 1/4096) of the exact product E,
     -- which is counted in 1/D: 4096·|D·y - E| ≤ D·b

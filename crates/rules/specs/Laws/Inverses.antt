@@ -63,7 +63,7 @@ module _ (rule : Rule) where
     length-recover (e ∷ es) u = length-recover es _ ∙ length-set u e _
 
     -- a place that is not on the list stays
-    recover-other : (es : List ℕ) (u : List ℤ) (k : ℕ) → has k es ≡ false → at (recover rule N S d w es u) k ≡ at u k
+    pub recover-other : (es : List ℕ) (u : List ℤ) (k : ℕ) → has k es ≡ false → at (recover rule N S d w es u) k ≡ at u k
     unfolding recover
     recover-other [] u k h = refl
     recover-other (e ∷ es) u k h = go (λ v f. recover-other es v k f) (ℕ-discrete k e)

@@ -10,7 +10,8 @@ use borrow.Author.Tests.{eq-eqb, ne-eqb, eqb-true}
 use lib.Dec.{eqb}
 use lib.IntN.{ℤ, pos}
 use Rattle.whole.specs.Stated.{Sign}
-use Rattle.rules.specs.Shapes.{those, byTurn, turn}
+use Rattle.rules.specs.Stages.{those}
+use Rattle.rules.specs.Shapes.{byTurn, turn}
 use Rattle.rules.specs.GoodStages.{has, InOrder, end, next, Recovers}
 use Rattle.rules.specs.Laws.Membership.{true-false, has-none, has-first, has-more, has-left, has-right, has-either}
 
@@ -36,7 +37,7 @@ has-one k n true h = (go (eqb k n) refl h, refl)
     go false e h = absurd (true-false h refl)
 has-one k n false h = absurd (true-false h refl)
 
-has-those : (test : ℕ → Bool) (n k : ℕ) → has k (those test n) ≡ true → (k < n) × (test k ≡ true)
+pub has-those : (test : ℕ → Bool) (n k : ℕ) → has k (those test n) ≡ true → (k < n) × (test k ≡ true)
 unfolding those
 has-those test zero k h = absurd (has-none k h)
 has-those test (suc n) k h = go (has-those test n k) (has-either k (those test n) _ h)
@@ -46,7 +47,7 @@ has-those test (suc n) k h = go (has-those test n k) (has-either k (those test n
     go ih (inl x) = let p = ih x in (omega arith, p .1)
     go ih (inr y) = let p = has-one k n (test n) y in (omega arith, ap test (p .0) ∙ p .1)
 
-those-has : (test : ℕ → Bool) (n k : ℕ) → k < n → test k ≡ true → has k (those test n) ≡ true
+pub those-has : (test : ℕ → Bool) (n k : ℕ) → k < n → test k ≡ true → has k (those test n) ≡ true
 unfolding those
 those-has test zero k l h = absurd (omega arith)
 those-has test (suc n) k l h = go (λ l′. those-has test n k l′ h) (ℕ-discrete k n)
@@ -76,8 +77,8 @@ module _ (w : ℕ → ℕ → ℤ) where
       go : (e k : ℕ) → (e < n) × (test e ≡ true) → (k ≡ n) × (test n ≡ true) → (k ≢ e) × (w e k ≡ pos 0)
       go e k x y = (omega arith, rw (y .0) (h e n (x .0) (omega arith) (x .1) (y .1)))
 
-module _ {N T : ℕ} {w : ℕ → ℕ → ℤ} {turn : ℕ → ℕ} (r : Ranked N T w turn) where
-  has-turn : (t k : ℕ) → has k (byTurn N t turn) ≡ true → (k < N) × (turn k < t)
+module _ (N : ℕ) (turn : ℕ → ℕ) where
+  pub has-turn : (t k : ℕ) → has k (byTurn N t turn) ≡ true → (k < N) × (turn k < t)
   unfolding byTurn
   has-turn zero k h = absurd (has-none k h)
   has-turn (suc t) k h = go (has-turn t k) (has-either k (byTurn N t turn) _ h)
@@ -87,7 +88,7 @@ module _ {N T : ℕ} {w : ℕ → ℕ → ℤ} {turn : ℕ → ℕ} (r : Ranked 
       go ih (inl x) = let p = ih x in (p .0, omega arith)
       go ih (inr y) = let p = has-those (λ e. eqb (turn e) t) N k y in let q = eqb-true (turn k) t (p .1) in (p .0, omega arith)
 
-  turn-has : (t k : ℕ) → k < N → turn k < t → has k (byTurn N t turn) ≡ true
+  pub turn-has : (t k : ℕ) → k < N → turn k < t → has k (byTurn N t turn) ≡ true
   unfolding byTurn
   turn-has zero k l h = absurd (omega arith)
   turn-has (suc t) k l h = go (turn-has t k l) (ℕ-discrete (turn k) t)
@@ -97,6 +98,7 @@ module _ {N T : ℕ} {w : ℕ → ℕ → ℤ} {turn : ℕ → ℕ} (r : Ranked 
       go ih (yes e) = has-right k (byTurn N t turn) _ (those-has (λ e. eqb (turn e) t) N k l (eq-eqb (turn k) t e))
       go ih (no q) = has-left k (byTurn N t turn) _ (ih (omega arith))
 
+module _ {N T : ℕ} {w : ℕ → ℕ → ℤ} {turn : ℕ → ℕ} (r : Ranked N T w turn) where
   turn-order : (t : ℕ) → InOrder w (byTurn N t turn)
   unfolding byTurn
   turn-order zero = end
@@ -104,7 +106,7 @@ module _ {N T : ℕ} {w : ℕ → ℕ → ℤ} {turn : ℕ → ℕ} (r : Ranked 
       order-append w (turn-order t)
       (those-order w (λ e. eqb (turn e) t) N
       (λ e k l m x y. r .blind e k (omega arith) m (omega arith) (omega (arith, eqb-true (turn e) t x, eqb-true (turn k) t y))))
-      (λ e k x y. go e k (has-turn t e x) (has-those (λ e. eqb (turn e) t) N k y))
+      (λ e k x y. go e k (has-turn N turn t e x) (has-those (λ e. eqb (turn e) t) N k y))
     where
       go : (e k : ℕ) → (e < N) × (turn e < t) → (k < N) × (eqb (turn k) t ≡ true) → (k ≢ e) × (w e k ≡ pos 0)
       go e k x y =
@@ -114,8 +116,8 @@ module _ {N T : ℕ} {w : ℕ → ℕ → ℤ} {turn : ℕ → ℕ} (r : Ranked 
   pub turns-recover : {d : ℕ → ℤ} → ((e : ℕ) → e < N → Sign (d e)) → Recovers N d w (byTurn N T turn)
   turns-recover s = record {
     signs = s;
-    all = λ e l. turn-has T e l (r .top e l);
-    only = λ e h. has-turn T e h .0;
+    all = λ e l. turn-has N turn T e l (r .top e l);
+    only = λ e h. has-turn N turn T e h .0;
     inOrder = turn-order T;
   }
 

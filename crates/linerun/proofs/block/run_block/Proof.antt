@@ -5,6 +5,7 @@ use mathlib.Core.Path.{_≡_, _∙_}
 use native.Mathlib.Omega.{arith}
 use lib.ListN.{length}
 use Rattle.factor.specs.Tasks.{numberOf}
+use Rattle.factor.specs.RunReplies.{given-all}
 use Rattle.linerun.specs.Fours.{fill-four, replies}
 use Rattle.linerun.proofs.block.run_block.Statement.{statement}
 use Rattle.linerun.proofs.block.run_block.Tie as tie
@@ -43,8 +44,9 @@ returns-2 c =
     let f = c .before .before in
     let e = f .before .before .before .before .before in
     let s = e .before .before in
-    replies (numberOf (s .args .run .task)) (s .args .y .now) (e .before .run-four .ensures (not-false _ (e .if1 .left)) .1)
-    (c .accepted .ensures) (f .copy-front .ensures ∙ fill-four _ _ (wide (e .before)) (four e))
+    given-all
+    (replies (numberOf (s .args .run .task)) (s .args .y .now) (e .before .run-four .ensures (not-false _ (e .if1 .left)) .1)
+    (c .accepted .ensures) (f .copy-front .ensures ∙ fill-four _ _ (wide (e .before)) (four e)))
 
 pub run-block-spec : {M : Type 1} → statement M
 run-block-spec =

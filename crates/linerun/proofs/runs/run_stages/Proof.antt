@@ -6,10 +6,9 @@ use native.Mathlib.Omega.{arith}
 use Rattle.rules.specs.Numbers.{mostOrder, count}
 use Rattle.laws.specs.Accepted.{accepted-order, accepted-count, order-counts, count-counts}
 use Rattle.factor.specs.Tasks.{limitOf, nthStage, takenBy, stage-below}
-use Rattle.factor.specs.PaddedBlocks.{run-ended-done, run-ended-stop}
 use Rattle.factor.specs.Steps.{Step}
 use Rattle.factor.specs.StageLoops.{stage-passes, stage-stops, stages-done}
-use Rattle.linerun.specs.Runs.{at-stage, left-listed, RunAt, run-starts}
+use Rattle.linerun.specs.Runs.{at-stage, left-listed, RunAt, run-starts, run-ends-done, run-ends-stopped}
 use Rattle.linerun.proofs.runs.run_stages.Statement.{statement}
 use Rattle.linerun.proofs.runs.run_stages.Tie as tie
 
@@ -88,7 +87,7 @@ returns c =
     let i = r .before .before in
     let l = i .before in
     let s = l .before .before .before in
-    run-ended-stop
+    run-ends-stopped (s .args .run) (s .args .sheet .now) (l .loop .t) (in-turn i) (l .loop .inv .3)
     (stage-stops (left-listed (s .args .sheet .now) _ _ (s .args .run .task)) (l .loop .t) (in-turn i) (l .loop .inv .3) (told r)
     (not-true _ (c .if1 .taken)))
 
@@ -117,7 +116,8 @@ returns-2 c =
     let l = c .before .loop in
     let s = c .before .before .before .before in
     let e : l .t ≡ count (s .args .sheet .now) 1 = omega (arith, l .inv .2) in
-    run-ended-done (stages-done (left-listed (s .args .sheet .now) _ _ (s .args .run .task)) (rw e at (l .inv .3)))
+    run-ends-done (s .args .run) (s .args .sheet .now)
+    (stages-done (left-listed (s .args .sheet .now) _ _ (s .args .run .task)) (rw e at (l .inv .3)))
 
 pub run-stages-spec : {M : Type 1} → statement M
 run-stages-spec =

@@ -8,7 +8,7 @@ use Rattle.laws.specs.Accepted.{order-counts}
 use Rattle.laws.specs.Sound.{counts-agree}
 use Rattle.factor.specs.Tasks.{stage-below}
 use Rattle.pairmoves.specs.MovedAside.{Places}
-use Rattle.rectanglerun.specs.StagesAgree.{Paired}
+use Rattle.factor.specs.LayoutInSheet.{Paired}
 use Rattle.rectanglerun.specs.Runs.{paired}
 use Rattle.rectanglerun.specs.Turns.{inTurn, column-places, row-places}
 use Rattle.rectanglerun.proofs.ends.move_in_turn.Statement.{statement}

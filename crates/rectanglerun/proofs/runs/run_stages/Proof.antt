@@ -1,53 +1,49 @@
 -- A run that stands before turn from stands before turn t (`stage-passes`), and the block is in bound.
 use borrow.Author.Tests.{not-true, not-false}
+use mathlib.Core.Bool.{Bool}
+use mathlib.Core.List.{List}
 use mathlib.Core.Path.{_≡_, _∙_}
-use Prim.Native.Nat.{ℕ, _-_, _≤_, _<_}
+use Prim.Native.Nat.{ℕ, _-_, _*_, _≤_, _<_}
 use native.Mathlib.Omega.{arith}
+use lib.IntN.{ℤ}
 use lib.ListN.{length}
 use Rattle.rules.specs.Numbers.{count}
+use Rattle.rules.specs.Factors.{factorAt}
 use Rattle.rules.specs.Stages.{Ran}
+use Rattle.rules.specs.Shapes.{jointStage}
 use Rattle.rules.specs.Answers.{start}
-use Rattle.laws.specs.Accepted.{order-counts}
 use Rattle.laws.specs.Sound.{counts-agree}
+use Rattle.factor.specs.declared.run.Run.{Run}
 use Rattle.factor.specs.Tasks.{limitOf, nthStage, takenBy, stage-below}
 use Rattle.factor.specs.SumBounds.{Bounded}
 use Rattle.factor.specs.Steps.{Step}
 use Rattle.factor.specs.StageLoops.{stage-passes, stage-stops}
 use Rattle.rectanglerun.specs.Runs.{paired, sizeOf, at-stage, left-listed}
-use Rattle.rectanglerun.specs.Turns.{StandsAt, progress-passes, progress-stops}
+use Rattle.rectanglerun.specs.Turns.{StandsAt, refused-there, progress-passes, progress-stops}
 use Rattle.rectanglerun.proofs.runs.run_stages.Statement.{statement}
 use Rattle.rectanglerun.proofs.runs.run_stages.Tie as tie
 
 abbrev Inv-loop : tie.InvT-loop
-Inv-loop run col row columns rows from to x₀ task n1 n2 t₀ x t =
-    (t ≤ to) × (n1 ≡ count col 0) × (n2 ≡ count row 0)
-    × ((ran : Ran) → StandsAt run col row ran from x₀ → StandsAt run col row ran t x) × Bounded (limitOf (run .task)) x
+Inv-loop run col row columns rows n1 n2 from to x₀ task t₀ x t =
+    (t ≤ to) × ((ran : Ran) → StandsAt run col row ran from x₀ → StandsAt run col row ran t x) × Bounded (limitOf (run .task)) x
     × (length x ≡ 256)
 
 abbrev μ-loop : tie.MeasureT-loop
-μ-loop run col row columns rows from to x₀ task n1 n2 t₀ x t = to - t
-
-count-at-requires : tie.Need-count-at-requires Inv-loop μ-loop
-count-at-requires c κs = order-counts (c .pre .0 .column)
-
-count-at-requires-2 : tie.Need-count-at-requires-2 Inv-loop μ-loop
-count-at-requires-2 c κs = order-counts (c .before .pre .0 .row)
+μ-loop run col row columns rows n1 n2 from to x₀ task t₀ x t = to - t
 
 loop-holds : tie.Need-loop-holds Inv-loop μ-loop
-loop-holds c =
-    let s = c .before .before in
-    (s .pre .3, c .before .count-at .ensures, c .count-at2 .ensures, λ ran h. h, s .pre .5, s .pre .6)
+loop-holds c = (c .pre .5, λ ran h. h, c .pre .7, c .pre .8)
 
 -- where the function began
 abbrev S : tie.At-loop Inv-loop μ-loop → tie.Start Inv-loop μ-loop
-S l = l .before .before .before
+S l = l .before
 
 -- the stage in turn
 abbrev T : tie.In-loop Inv-loop μ-loop → ℕ
 T c = let a = S (c .before) .args in nthStage (a .run .task) (count (a .col .now) 1) (c .before .loop .t)
 
 in-turn : (c : tie.In-loop Inv-loop μ-loop) → c .before .loop .t < count (S (c .before) .args .col .now) 1
-in-turn c = let m = S (c .before) .pre .4 in omega arith
+in-turn c = let m = S (c .before) .pre .6 in omega arith
 
 agree : (c : tie.In-loop Inv-loop μ-loop) → let a = S (c .before) .args in count (a .row .now) 1 ≡ count (a .col .now) 1
 agree c = counts-agree _ _ (S (c .before) .pre .0 .match)
@@ -70,14 +66,21 @@ run-stage-requires c κs =
     let i = j .before .before in
     let l = i .before .loop in
     let s = S (i .before) in
-    let p = paired (s .pre .0) (T i) (stage-below _ _ _ (in-turn i)) (l .inv .1) (l .inv .2) (j .before .nth-start .ensures)
+    let p = paired (s .pre .0) (T i) (stage-below _ _ _ (in-turn i)) (s .pre .3) (s .pre .4) (j .before .nth-start .ensures)
     (row j) in
-    (p, l .inv .4, l .inv .5)
+    (p, l .inv .2, l .inv .3)
 
 add-t18 : tie.Need-add-t18 Inv-loop μ-loop
 add-t18 c = omega arith
 
 -- the stage, of the orders themselves
+of-orders :
+    (run : Run) (c r v : List ℤ) (f : ℕ) {n1 n2 i j : ℕ} {ok : Bool} {u : List ℤ} → n1 ≡ count c 0 → n2 ≡ count r 0 →
+    i ≡ start c f → j ≡ start r f →
+    Step (limitOf (run .task)) (n1 * n2) (takenBy run (n1 * n2) (jointStage n1 n2 (factorAt c n1 i) (factorAt r n2 j)) v) ok u →
+    Step (limitOf (run .task)) (sizeOf c r) (takenBy run (sizeOf c r) (at-stage c r f) v) ok u
+of-orders run c r v f a b d e h = rw (a, b, d, e) at h
+
 told :
     (c : tie.After-run-stage Inv-loop μ-loop) →
     let i = c .before .before .before .before in
@@ -87,8 +90,8 @@ told :
     (c .run-stage .result .ok) (c .run-stage .last .1 .1 .1 .1 .1 .1 .1 .0)
 told c =
     let j = c .before .before in
-    let l = j .before .before .before .loop in
-    rw (l .inv .1, l .inv .2, j .before .nth-start .ensures, row j) at (c .run-stage .ensures .0)
+    let s = S (j .before .before .before) in
+    of-orders (s .args .run) _ _ _ _ (s .pre .3) (s .pre .4) (j .before .nth-start .ensures) (row j) (c .run-stage .ensures .0)
 
 returns : tie.Need-returns Inv-loop μ-loop
 returns c =
@@ -98,7 +101,8 @@ returns c =
     let a = S l .args in
     let all = left-listed (a .col .now) (a .row .now) (a .run .task) in
     let no = not-true _ (c .if1 .taken) in (
-      progress-stops (λ ran h. stage-stops all (l .loop .t) (in-turn n) (l .loop .inv .3 ran h) (told r) no),
+      progress-stops (l .loop .t) (n .loop-test .taken)
+          (λ ran h. refused-there (stage-stops all (l .loop .t) (in-turn n) (l .loop .inv .1 ran h) (told r) no)),
       r .run-stage .ensures .1,
     )
 
@@ -118,9 +122,7 @@ loop-again c =
     let all = left-listed (a .col .now) (a .row .now) (a .run .task) in
     let yes = not-false _ (c .if1 .left) in (
       omega arith,
-      i .1,
-      i .2,
-      λ ran h. stage-passes all (l .loop .t) (in-turn n) (i .3 ran h) (told r) yes,
+      λ ran h. stage-passes all (l .loop .t) (in-turn n) (i .1 ran h) (told r) yes,
       told r .takes yes .1,
       r .run-stage .ensures .1,
     )
@@ -129,10 +131,10 @@ returns-2 : tie.Need-returns-2 Inv-loop μ-loop
 returns-2 c =
     let l = c .before in
     let e : l .loop .t ≡ S l .args .to = omega (arith, l .loop .inv .0) in
-    (progress-passes (rw e at (l .loop .inv .3)), l .loop .inv .5)
+    (progress-passes (rw e at (l .loop .inv .1)), l .loop .inv .3)
 
 pub run-stages-spec : {M : Type 1} → statement M
 run-stages-spec =
     tie.close
-    (tie.spec Inv-loop μ-loop count-at-requires count-at-requires-2 loop-holds nth-start-requires
+    (tie.spec Inv-loop μ-loop loop-holds nth-start-requires
     nth-start-requires-2 run-stage-requires add-t18 returns add-t loop-less loop-again returns-2)

@@ -27,6 +27,9 @@ at-requires-2 c κs = search needs
 at-requires-3 : tie.Need-at-requires-3
 at-requires-3 c κs = search needs
 
+at-requires-4 : tie.Need-at-requires-4
+at-requires-4 c κs = search needs
+
 is-rest-requires : tie.Need-is-rest-requires
 is-rest-requires c κs = search needs
 
@@ -73,5 +76,5 @@ pub judge-spec : {M : Type 1} → statement M
 judge-spec =
     tie.close
     (tie.spec part-requires part-requires-2 part-requires-3 part-requires-4 at-requires at-requires-2 at-requires-3
-    is-rest-requires returns returns-2 load-requires array-borrow-prefix-room slice-aggregate-answer answer-requires
-    is-answer-requires returns-3 part-requires-5 is-between-requires returns-4 is-front-requires returns-5)
+    at-requires-4 is-rest-requires returns returns-2 load-requires array-borrow-prefix-room slice-aggregate-answer
+    answer-requires is-answer-requires returns-3 part-requires-5 is-between-requires returns-4 is-front-requires returns-5)

@@ -1,0 +1,87 @@
+-- The search passed the turns before t (`Passed`).
+use borrow.Author.Needs.{needs}
+use borrow.Author.Tests.{not-true, not-false}
+use mathlib.Core.Path.{_≡_, sym}
+use Prim.Native.Nat.{ℕ, _+_, _-_, _≤_, _<_}
+use native.Mathlib.Omega.{arith}
+use Rattle.rules.specs.Shapes.{byTurn}
+use Rattle.offender.specs.Search.{searched, turns-grow, Passed, passed-none, found-whole, passed-whole}
+use Rattle.offender.specs.Search.{step-on, step-stops}
+use Rattle.offender.specs.RefusedStages.{cells, turnOf, searchOf}
+use Rattle.offender.specs.RefusedBounds.{cells-most, given-on}
+use Rattle.offender.proofs.search.first_undone.Statement.{statement}
+use Rattle.offender.proofs.search.first_undone.Tie as tie
+
+abbrev Inv-loop : tie.InvT-loop
+Inv-loop rule q col row x₀ n t₀ t-end x t =
+    (t ≤ t-end) × (t-end ≡ cells q + 4) × Passed (searchOf rule q col row) (byTurn (cells q) t (turnOf q col row)) x₀ x
+
+abbrev μ-loop : tie.MeasureT-loop
+μ-loop rule q col row x₀ n t₀ t-end x t = t-end - t
+
+-- the turn of element k
+abbrev turns : tie.Start Inv-loop μ-loop → ℕ → ℕ
+turns s k = turnOf (s .args .q) (s .args .col .now) (s .args .row .now) k
+
+cells-of-requires : tie.Need-cells-of-requires Inv-loop μ-loop
+cells-of-requires c κs = let p = c .pre .stage .placed in (p .most1, p .most2)
+
+add-t-end : tie.Need-add-t-end Inv-loop μ-loop
+add-t-end c = omega (arith, c .cells-of .ensures, cells-most (c .before .pre .stage))
+
+loop-holds : tie.Need-loop-holds Inv-loop μ-loop
+unfolding byTurn
+loop-holds c = (omega arith, omega (arith, c .cells-of .ensures), passed-none (c .before .pre .small))
+
+recover-turn-requires : tie.Need-recover-turn-requires Inv-loop μ-loop
+recover-turn-requires c κs =
+    let l = c .before .before in given-on (l .before .before .pre) (l .loop .inv .2)
+
+same-length : tie.Need-same-length Inv-loop μ-loop
+same-length c = search needs
+
+returns : tie.Need-returns Inv-loop μ-loop
+returns c =
+    let r = c .before .before .before in
+    let i = r .before .before in
+    let l = i .before in
+    let s = l .before .before in
+    let b : l .loop .t < cells (s .args .q) + 4 = let h = i .loop-test .taken in omega (arith, l .loop .inv .1) in
+    sym
+    (found-whole
+    (step-stops (turns-grow (cells (s .args .q)) (turns s)) (l .loop .t) (cells (s .args .q) + 4) b (l .loop .inv .2)
+    (r .recover-turn .ensures .stops (not-true _ (c .if1 .taken)))))
+
+add-t : tie.Need-add-t Inv-loop μ-loop
+add-t c = omega arith
+
+loop-less : tie.Need-loop-less Inv-loop μ-loop
+loop-less c = omega arith
+
+loop-again : tie.Need-loop-again Inv-loop μ-loop
+loop-again c =
+    let r = c .before .before .before in
+    let l = r .before .before .before in
+    let s = l .before .before in (
+      omega arith,
+      l .loop .inv .1,
+      step-on (turns-grow (cells (s .args .q)) (turns s)) (l .loop .t) (l .loop .inv .2)
+          (r .recover-turn .ensures .goes (not-false _ (c .if1 .left))),
+    )
+
+same-length-2 : tie.Need-same-length-2 Inv-loop μ-loop
+same-length-2 c = search needs
+
+returns-2 : tie.Need-returns-2 Inv-loop μ-loop
+unfolding searched
+returns-2 c =
+    let l = c .before in
+    let s = l .before .before in
+    let e : l .loop .t ≡ cells (s .args .q) + 4 = omega (arith, l .loop .inv .1) in
+    sym (passed-whole (rw e at (l .loop .inv .2)))
+
+pub first-undone-spec : {M : Type 1} → statement M
+first-undone-spec =
+    tie.close
+    (tie.spec Inv-loop μ-loop cells-of-requires add-t-end loop-holds recover-turn-requires same-length returns add-t loop-less
+    loop-again same-length-2 returns-2)

@@ -1,0 +1,67 @@
+-- Each shape is a line of `signBy`, from the signs of its factors.
+use borrow.Author.Needs.{needs}
+use mathlib.Core.Path.{_≡_, _∙_}
+use lib.IntN.{_*ℤ_}
+use mir.Syntax.{w32}
+use mir.Val.{toZ, ofZ}
+use Rattle.whole.specs.Machine.{fits, back, sign-within}
+use Rattle.rules.specs.Shapes.{jointSign}
+use Rattle.offender.specs.RefusedStages.{signBy, signOf}
+use Rattle.offender.specs.RefusedBounds.{first, second, in-line, in-row, in-column, sign-one}
+use Rattle.offender.proofs.weights.sign_at.Statement.{statement}
+use Rattle.offender.proofs.weights.sign_at.Tie as tie
+
+enum-told : tie.Need-enum-told
+enum-told c = search needs
+
+sign-of-requires : tie.Need-sign-of-requires
+sign-of-requires c κs =
+    let s = c .before .before in (first (s .pre .0), in-line (s .pre .0) (c .enum-told .given .1) (s .args .e) (s .pre .1))
+
+returns : tie.Need-returns
+unfolding signBy
+returns c = rw (c .before .enum-told .given .1) (back w32 _ (c .sign-of .ok) ∙ c .sign-of .ensures)
+
+enum-told-2 : tie.Need-enum-told-2
+enum-told-2 c = search needs
+
+div-sign-of : tie.Need-div-sign-of
+div-sign-of c = search needs
+
+sign-of-requires-2 : tie.Need-sign-of-requires-2
+sign-of-requires-2 c κs =
+    let s = c .before .before in (first (s .pre .0), in-row (s .pre .0) (c .enum-told2 .given .1) (s .args .e) (s .pre .1))
+
+rem-sign-of : tie.Need-rem-sign-of
+rem-sign-of c = search needs
+
+sign-of-requires-3 : tie.Need-sign-of-requires-3
+sign-of-requires-3 c κs =
+    let s = c .before .before .before in
+    (second (s .pre .0), in-column (s .pre .0) (c .before .enum-told2 .given .1) (s .args .e) (s .pre .1))
+
+both : (c : tie.After-sign-of3) →
+    let s = c .before .before .before .before in
+    toZ w32 (ofZ w32 (c .before .sign-of2 .result)) *ℤ toZ w32 (ofZ w32 (c .sign-of3 .result)) ≡ signOf (s .args .q)
+    (s .args .col .now) (s .args .row .now) (s .args .e)
+unfolding signBy jointSign
+both c =
+    rw (
+      back w32 _ (c .before .sign-of2 .ok) ∙ c .before .sign-of2 .ensures,
+      back w32 _ (c .sign-of3 .ok) ∙ c .sign-of3 .ensures,
+      c .before .before .enum-told2 .given .1,
+    )
+
+both-signs-requires : tie.Need-both-signs-requires
+both-signs-requires c κs =
+    let s = c .before .before .before .before in
+    rw (both c) (fits (sign-within (sign-one (s .pre .0) (s .args .e) (s .pre .1))) tt)
+
+returns-2 : tie.Need-returns-2
+returns-2 c = back w32 _ (c .both-signs .ok) ∙ c .both-signs .ensures ∙ both (c .before)
+
+pub sign-at-spec : {M : Type 1} → statement M
+sign-at-spec =
+    tie.close
+    (tie.spec enum-told sign-of-requires returns enum-told-2 div-sign-of sign-of-requires-2 rem-sign-of sign-of-requires-3
+    both-signs-requires returns-2)

@@ -1,0 +1,5 @@
+pub mod Search
+pub mod RefusedStages
+pub mod FactorMatrix
+pub mod RefusedBounds
+pub mod NamedElements

@@ -1,0 +1,111 @@
+-- THE ELEMENT THAT IS FOUND is the one that the document names: a stage of either shape, moved, applied and undone.
+use mathlib.Core.List.{List}
+use mathlib.Core.Path.{_≡_, refl, subst}
+use Prim.Native.Nat.{ℕ, _+_, _≤_}
+use native.Mathlib.Omega.{arith}
+use lib.IntN.{ℤ}
+use lib.ListN.{length}
+use Rattle.rules.specs.declared.Kind.the-variants.{Permutation}
+use Rattle.rules.specs.declared.Rule.{Rule}
+use Rattle.rules.specs.Numbers.{bound, count}
+use Rattle.rules.specs.Sheets.{kindOf}
+use Rattle.rules.specs.Factors.{Factor, factorAt}
+use Rattle.rules.specs.Stages.{Stage, move, weigh, fill, upTo, forward, undo, recovery, firstRead}
+use Rattle.rules.specs.Shapes.{byTurn, turn, order, lineStage, jointStage}
+use Rattle.rules.specs.GoodStages.{Good, Recovers}
+use Rattle.rules.specs.Laws.SoundFactors.{good-recovers}
+use Rattle.rules.specs.Laws.Kinds.{line-good, joint-good, stage-moves, stage-weighs}
+use Rattle.rules.specs.Laws.Offenders.{none-beyond}
+use Rattle.laws.specs.Sound.{factor-sound}
+use Rattle.factor.specs.declared.run.Task.{Task}
+use Rattle.factor.specs.declared.run.Task.the-variants.{Forward, Inverse, Allowance}
+use Rattle.factor.specs.SumBounds.{Bounded, bounded-fill, bounded-put}
+use Rattle.factor.specs.Tasks.{limitOf, nameAfter, stageBy}
+use Rattle.offender.specs.declared.weights.Shape.{Shape}
+use Rattle.offender.specs.declared.weights.Shape.the-variants.{Line, Joint}
+use Rattle.offender.specs.declared.weights.Refused.{Refused}
+use Rattle.offender.specs.Search.{searched-is}
+use Rattle.offender.specs.RefusedStages.{cellsBy, scaleBy, signBy, weightBy, sharedBy, stageShaped}
+use Rattle.offender.specs.RefusedStages.{cells, signOf, weightOf, stageOf, turnOf, orderOf, appliedOf, searchOf}
+use Rattle.offender.specs.RefusedStages.{Weighed}
+
+-- ---- a permutation: moved numbers stay in bound
+moved-none : (task : Task) (rule : Rule) (N S : ℕ) (p : ℕ → ℕ) {v : List ℤ} → Bounded (limitOf task) v →
+    nameAfter task N (move S p) (stageBy task rule N (move S p) v) ≡ 0
+unfolding limitOf nameAfter stageBy forward undo recovery
+moved-none Forward rule N S p h =
+    none-beyond bound _ (upTo N) (λ k m. bounded-fill N _ h (λ e. h .small (p e)) .small k)
+moved-none Inverse rule N S p h = none-beyond bound _ (upTo N) (λ k m. bounded-put N p h .small k)
+moved-none Allowance rule N S p h = refl
+
+pub none-moved : (task : Task) (rule : Rule) (q : Refused) (c r : List ℤ) {v : List ℤ} →
+    kindOf (count c (q .i)) ≡ Permutation → Bounded (limitOf task) v →
+    nameAfter task (cells q) (stageOf q c r) (stageBy task rule (cells q) (stageOf q c r) v) ≡ 0
+none-moved task rule q c r {v} k h = go (q .shape)
+  where
+    moving : (N : ℕ) {s t : Stage} → s ≡ t → nameAfter task N t (stageBy task rule N t v) ≡ 0 →
+        nameAfter task N s (stageBy task rule N s v) ≡ 0
+    moving N e z = rw e z
+
+    go : (s : Shape) →
+        let t = stageShaped (q .n1) (q .n2) (factorAt c (q .n1) (q .i)) (factorAt r (q .n2) (q .j)) s in
+        nameAfter task (cells q) t (stageBy task rule (cells q) t v) ≡ 0
+    go Line =
+        unfold stageShaped lineStage factorAt in moving (cells q) (stage-moves _ _ _ k) (moved-none task rule (cells q) _ _ h)
+    go Joint =
+        unfold stageShaped jointStage factorAt in moving (cells q) (stage-moves _ _ _ k) (moved-none task rule (cells q) _ _ h)
+
+-- ---- a stage with weights
+module _ {q : Refused} {c r : List ℤ} (h : Weighed q c r) where
+  abbrev A : Factor
+  A = factorAt c (q .n1) (q .i)
+
+  abbrev B : Factor
+  B = factorAt r (q .n2) (q .j)
+
+  -- it is the document's
+  weighing : stageOf q c r ≡ weigh (scaleBy (q .shape)) (signOf q c r) (weightOf q c r) (orderOf q c r)
+  unfolding turnOf
+  weighing = go (q .shape)
+    where
+      go : (s : Shape) →
+          stageShaped (q .n1) (q .n2) A B s
+          ≡ weigh (scaleBy s) (signBy (q .n1) (q .n2) A B s) (weightBy (q .n1) (q .n2) A B s)
+          (byTurn (cellsBy s (q .n1) (q .n2)) (cellsBy s (q .n1) (q .n2) + 4)
+          (λ e. turn (kindOf (count c (q .i))) (cellsBy s (q .n1) (q .n2)) (sharedBy (q .n1) (q .n2) A B s e) e))
+      go Line =
+          unfold cellsBy scaleBy signBy weightBy sharedBy stageShaped lineStage order factorAt in
+          stage-weighs _ _ _ (h .weighs)
+      go Joint =
+          unfold cellsBy scaleBy signBy weightBy sharedBy stageShaped jointStage order factorAt in
+          stage-weighs _ _ _ (h .weighs)
+
+  good : Good (cells q) (stageOf q c r)
+  good = go (q .shape)
+    where
+      go : (s : Shape) → Good (cellsBy s (q .n1) (q .n2)) (stageShaped (q .n1) (q .n2) A B s)
+      go Line = unfold cellsBy stageShaped in line-good (q .n1) A (factor-sound (h .placed .column))
+      go Joint =
+          unfold cellsBy stageShaped in
+          joint-good (q .n1) (q .n2) A B (unfold factorAt in h .placed .match) (factor-sound (h .placed .column))
+          (factor-sound (h .placed .row))
+
+  recovers : Recovers (cells q) (signOf q c r) (weightOf q c r) (orderOf q c r)
+  recovers = good-recovers (subst (Good (cells q)) weighing good)
+
+  -- applied: in reading order
+  pub applied-named : (rule : Rule) (v : List ℤ) →
+      firstRead (cells q) (fill (cells q) (appliedOf rule q c r v) v)
+      ≡ nameAfter Forward (cells q) (stageOf q c r) (stageBy Forward rule (cells q) (stageOf q c r) v)
+  unfolding nameAfter stageBy forward appliedOf
+  applied-named rule v = rw weighing
+
+  -- undone: in the recovery order
+  pub undone-named : (rule : Rule) (v : List ℤ) → cells q ≤ length v →
+      searchOf rule q c r (orderOf q c r) v
+      ≡ nameAfter Inverse (cells q) (stageOf q c r) (stageBy Inverse rule (cells q) (stageOf q c r) v)
+  unfolding nameAfter stageBy undo recovery
+  undone-named rule v room =
+      rw weighing
+      (searched-is rule (cells q) (scaleBy (q .shape)) (signOf q c r) (weightOf q c r) (recovers .inOrder) v
+      (λ k m. omega (arith, recovers .only k m)))

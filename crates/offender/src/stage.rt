@@ -1,0 +1,84 @@
+// A later stage: the element that the answer names, from the stage that is refused and the block before it.
+ghost use mathlib.Core.Path.{_≡_};
+ghost use Prim.Native.Nat.{_*_, _≤_};
+ghost use lib.ListN.{length};
+ghost use Rattle.rules.specs.Numbers.{mostOrder};
+ghost use Rattle.rules.specs.Factors.{factorAt};
+ghost use Rattle.rules.specs.Shapes.{lineStage, jointStage};
+ghost use Rattle.laws.specs.Accepted.{FactorRead};
+ghost use Rattle.factor.specs.SumBounds.{Bounded};
+ghost use Rattle.factor.specs.LayoutInSheet.{Paired};
+ghost use Rattle.factor.specs.Tasks.{limitOf, nameAfter, takenBy};
+ghost use Rattle.offender.specs.RefusedStages.{Placed, cells, stageOf};
+use crate::search::first_applied;
+use crate::search::first_undone;
+use crate::weights::Refused;
+use crate::weights::Shape;
+use factor::is_move;
+use factor::layout_at;
+use factor::run::Run;
+use factor::run::Task;
+
+// Moved numbers stay in bound, so a permutation is never refused; nor is an element of an allowance ever named.
+fn element(run: Run, q: Refused, col: &[i32], row: &[i32], x: &mut [i32]) -> usize
+    requires { ⌜ Placed q (now col) (now row) × Bounded (limitOf (run .task)) (now x) × (cells q ≤ length (now x)) ⌝ }
+    ensures { λ r. ⌜ r ≡ nameAfter (run .task) (cells q) (stageOf q (now (col .entry)) (now (row .entry)))
+        (takenBy run (cells q) (stageOf q (now (col .entry)) (now (row .entry))) (now (x .entry))) ⌝ }
+{
+    let task = run.task;
+    let rule = run.rule;
+    let n = q.n1;
+    let i = q.i;
+    if is_move(layout_at(col, n, i)) {
+        return 0;
+    }
+    match task {
+        Task::Forward => return first_applied(rule, q, col, row, x),
+        Task::Inverse => return first_undone(rule, q, col, row, x),
+        Task::Allowance => return 0,
+    }
+}
+
+// A stage of a line that is refused, and the block before it: the element that the answer names. The block is used up.
+pub fn line_element(run: Run, sheet: &[i32], n: usize, i: usize, x: &mut [i32]) -> usize
+    requires { ⌜ (1 ≤ n) × (n ≤ mostOrder) × FactorRead (now sheet) n i × Bounded (limitOf (run .task)) (now x)
+        × (n ≤ length (now x)) ⌝ }
+    ensures { λ r. ⌜ r ≡ nameAfter (run .task) n (lineStage n (factorAt (now (sheet .entry)) n i))
+        (takenBy run n (lineStage n (factorAt (now (sheet .entry)) n i)) (now (x .entry))) ⌝ }
+{
+    let q = Refused {
+        shape: Shape::Line,
+        n1: n,
+        n2: n,
+        i,
+        j: i,
+    };
+    element(run, q, sheet, sheet, x)
+}
+
+// The same of a rectangle.
+pub fn joint_element(
+    run: Run,
+    col: &[i32],
+    row: &[i32],
+    n1: usize,
+    n2: usize,
+    i: usize,
+    j: usize,
+    x: &mut [i32],
+) -> usize
+    requires { ⌜ Paired (now col) (now row) n1 n2 i j × Bounded (limitOf (run .task)) (now x) × (n1 * n2 ≤ length (now x)) ⌝ }
+    ensures { λ r. ⌜ r ≡ nameAfter (run .task) (n1 * n2)
+        (jointStage n1 n2 (factorAt (now (col .entry)) n1 i) (factorAt (now (row .entry)) n2 j))
+        (takenBy run (n1 * n2) (jointStage n1 n2 (factorAt (now (col .entry)) n1 i) (factorAt (now (row .entry)) n2 j))
+        (now (x .entry))) ⌝ }
+{
+    let q = Refused {
+        shape: Shape::Joint,
+        n1,
+        n2,
+        i,
+        j,
+    };
+    element(run, q, col, row, x)
+}
