@@ -88,8 +88,8 @@ fn recover_turn(rule: Rule, q: Refused, col: &[i32], row: &[i32], t: usize, x: &
 // could leave 64 bits.
 pub fn first_undone(rule: Rule, q: Refused, col: &[i32], row: &[i32], x: &mut [i32]) -> usize
     requires { ⌜ Given q (now col) (now row) (now x) ⌝ }
-    ensures { λ r. ⌜ r ≡ searchOf rule q (now (col .entry)) (now (row .entry)) (orderOf q (now (col .entry)) (now (row .entry)))
-        (now (x .entry)) ⌝ }
+    ensures { λ r. ⌜ r ≡ searchOf rule q (now (col .entry)) (now (row .entry))
+        (orderOf q (now (col .entry)) (now (row .entry))) (now (x .entry)) ⌝ }
 {
     let n = cells_of(q);
     for t in 0..n + 4 {

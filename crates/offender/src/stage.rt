@@ -67,7 +67,8 @@ pub fn joint_element(
     j: usize,
     x: &mut [i32],
 ) -> usize
-    requires { ⌜ Paired (now col) (now row) n1 n2 i j × Bounded (limitOf (run .task)) (now x) × (n1 * n2 ≤ length (now x)) ⌝ }
+    requires { ⌜ Paired (now col) (now row) n1 n2 i j × Bounded (limitOf (run .task)) (now x)
+        × (n1 * n2 ≤ length (now x)) ⌝ }
     ensures { λ r. ⌜ r ≡ nameAfter (run .task) (n1 * n2)
         (jointStage n1 n2 (factorAt (now (col .entry)) n1 i) (factorAt (now (row .entry)) n2 j))
         (takenBy run (n1 * n2) (jointStage n1 n2 (factorAt (now (col .entry)) n1 i) (factorAt (now (row .entry)) n2 j))

@@ -30,7 +30,8 @@ fn check_call(
 ) -> Answer
     requires { ⌜ (length (now columns) ≡ mostCount) × (length (now rows) ≡ mostCount) ⌝ }
     ensures { λ r. ⌜ (r ≡ checksOf rule task (joint (now (col .entry)) (now (row .entry))) x y)
-        × (r .number ≡ 0 → Starts (now (col .entry)) (now (columns .exit)) × Starts (now (row .entry)) (now (rows .exit))) ⌝ }
+        × (r .number ≡ 0 →
+        Starts (now (col .entry)) (now (columns .exit)) × Starts (now (row .entry)) (now (rows .exit))) ⌝ }
 {
     let a = check_rule(rule);
     if a.number != 0 {

@@ -29,7 +29,8 @@ pub fn check_sheets(
 ) -> Answer
     requires { ⌜ (length (now columns) ≡ mostCount) × (length (now rows) ≡ mostCount) ⌝ }
     ensures { λ r. ⌜ (r ≡ planOf shape (now (col .entry)) (now (row .entry)) .sheets)
-        × (r .number ≡ 0 → StartsOf shape (now (col .entry)) (now (row .entry)) (now (columns .exit)) (now (rows .exit))) ⌝ }
+        × (r .number ≡ 0 →
+        StartsOf shape (now (col .entry)) (now (row .entry)) (now (columns .exit)) (now (rows .exit))) ⌝ }
 {
     match shape {
         Shape::Line => return check_starts(col, columns),
