@@ -1,7 +1,7 @@
 -- A BLOCK IN ITS ROOM: its numbers at the front of an array, 0 behind them, and the reply to a run over that array.
 use mathlib.Core.Bool.{true}
 use mathlib.Core.List.{List, _++_}
-use mathlib.Core.Path.{_≡_, refl, sym, ap, _∙_}
+use mathlib.Core.Path.{_≡_, refl, sym, _∙_}
 use Prim.Native.Nat.{ℕ, zero, suc, _+_, _-_, _≤_, _<_}
 use native.Mathlib.Decide.{decLt}
 use native.Mathlib.Omega.{arith}
@@ -12,9 +12,8 @@ use lib.Seq.{getD-append-add, ext-getD}
 use Rattle.whole.specs.Diff.{Within}
 use Rattle.rules.specs.Numbers.{at}
 use Rattle.rules.specs.Stages.{Ran, done, beyond, fill, inside}
-use Rattle.rules.specs.declared.Answer.{Answer}
 use Rattle.rules.specs.Answers.{accepted, refusedAt}
-use Rattle.rules.specs.Calls.{Reply, Gives, reply, ranAnswer, ranMemory}
+use Rattle.rules.specs.Calls.{Reply, reply, ranAnswer, ranMemory}
 use Rattle.rules.specs.Laws.Lists.{length-fill, fill-at, fill-past, inside-at, same-list}
 use Rattle.rules.specs.Laws.Padding.{paddedRun}
 use Rattle.laws.specs.AnswersInTurn.{ranReply}
@@ -25,13 +24,6 @@ use Rattle.factor.specs.SumBounds.{Bounded}
 unfoldable pub ended : Ran → ℕ → List ℤ → Reply ℤ
 ended (done v) number y = record { answer = accepted; memory = fill (length y) (at v) y }
 ended (beyond s e) number y = record { answer = refusedAt number 0 s e; memory = y }
-
--- a run that is done, as the code ends it
-pub ended-done :
-    {ran : Ran} {a : Answer} (number : ℕ) {v z : List ℤ} (y : List ℤ) → ran ≡ done v → a ≡ accepted →
-    z ≡ fill (length y) (at v) y → Gives a z (ended ran number y)
-unfolding ended
-ended-done number y h e w = rw h (e, w)
 
 -- the numbers at the front of a block, written over a slice of their length
 store-is : (v p y : List ℤ) → length v ≡ length y → fill (length y) (at (v ++ p)) y ≡ v

@@ -8,9 +8,9 @@ use lib.IntN.{ℤ, pos}
 use lib.ListN.{length, replicate, replicate-append-replicate}
 use Rattle.rules.specs.declared.Answer.{Answer}
 use Rattle.rules.specs.declared.Rule.{Rule}
-use Rattle.rules.specs.Numbers.{bound}
-use Rattle.rules.specs.Stages.{Stage, Ran, inside, beyond, firstRead, runForward, runInverse}
-use Rattle.rules.specs.Answers.{refusedAt}
+use Rattle.rules.specs.Numbers.{bound, at}
+use Rattle.rules.specs.Stages.{Stage, Ran, done, beyond, fill, inside, firstRead, runForward, runInverse}
+use Rattle.rules.specs.Answers.{accepted, refusedAt}
 use Rattle.rules.specs.Calls.{Reply, Gives, reply, ranAnswer, ranMemory}
 use Rattle.rules.specs.GoodStages.{AllGood}
 use Rattle.rules.specs.Laws.Padding.{forward-padded, inverse-padded, allowance-padded}
@@ -21,7 +21,7 @@ use Rattle.factor.specs.declared.run.Task.{Task}
 use Rattle.factor.specs.declared.run.Task.the-variants.{Forward, Inverse, Allowance}
 use Rattle.factor.specs.declared.run.Run.{Run}
 use Rattle.factor.specs.SumBounds.{Bounded, bounded-le}
-use Rattle.factor.specs.Tasks.{limitOf, inputsOf, numberOf, inOrder, stageBy, nameFirst, nameAfter, runBy}
+use Rattle.factor.specs.Tasks.{limitOf, inputsOf, numberOf, endAnswer, inOrder, stageBy, nameFirst, nameAfter, runBy}
 use Rattle.factor.specs.Tasks.{ranBy, ran}
 use Rattle.factor.specs.PaddedBlocks.{ended, ended-is, padding, paddedBlock, padded-bounded}
 
@@ -38,12 +38,22 @@ module _ {a : Answer} {m : List ℤ} {q : Reply ℤ} where
   pub given-asked : GivesAsked true a m q → Gives a m q
   given-asked g = (g .whole refl, g .memory)
 
--- a run that is refused
-pub ended-asked :
-    {named : Bool} {ran : Ran} {a : Answer} (number : ℕ) {s k : ℕ} (y : List ℤ) → ran ≡ beyond s k →
-    (a .number ≡ number) × (named ≡ true → a ≡ refusedAt number 0 s k) → GivesAsked named a y (ended ran number y)
-unfolding ended
-ended-asked number y h e = rw h (record { number = e .0; memory = refl; whole = e .1 })
+-- how the code ends a block: the stage and the element stand in the pair
+pub noted : {number s e : ℕ} {pair : List ℕ} → pair ≡ s ∷ e ∷ [] → endAnswer number false pair ≡ refusedAt number 0 s e
+unfolding endAnswer
+noted h = rw h
+
+-- the reply to a run that is refused, and to one that is done
+module _ {named : Bool} {ran : Ran} (number : ℕ) (y : List ℤ) where
+  pub ended-noted : {s k e : ℕ} {pair : List ℕ} → ran ≡ beyond s k → pair ≡ s ∷ e ∷ [] → (named ≡ true → ran ≡ beyond s e) →
+      GivesAsked named (endAnswer number false pair) y (ended ran number y)
+  unfolding ended
+  ended-noted h p n = rw (noted p) (record { number = rw h; memory = rw h; whole = λ z. rw (n z) })
+
+  pub ended-done : {v z : List ℤ} {a : Answer} → ran ≡ done v → a ≡ accepted → z ≡ fill (length y) (at v) y →
+      GivesAsked named a z (ended ran number y)
+  unfolding ended
+  ended-done h e w = rw h (given-all (e, w))
 
 -- ---- the run of the block in its room
 none-lent : (x : List ℤ) → length x ≡ 0 → x ≡ []
@@ -88,19 +98,22 @@ start-bounded room Inverse x h = padded-bounded room bound x h
 start-bounded room Allowance x h = bounded-le (omega arith) (padded-bounded room bound x h)
 
 -- stage 0: a block with a number beyond the bound
-module _ (N : ℕ) (ss : List Stage) (x y : List ℤ) (out : inside bound (length x) x ≡ false) {a : Answer}
-    (e : a ≡ refusedAt 11 0 0 (firstRead (length x) x)) where
-  replies : {ran : Ran} → length x ≡ N → ran ≡ beyond 0 (firstRead N x) → Gives a y (ranReply 11 ran y)
+module _ (N : ℕ) (ss : List Stage) (x y : List ℤ) (out : inside bound (length x) x ≡ false) {a : Answer} where
+  replies : {ran : Ran} → length x ≡ N → ran ≡ beyond 0 (firstRead N x) → a ≡ refusedAt 11 0 0 (firstRead (length x) x) →
+      Gives a y (ranReply 11 ran y)
   unfolding reply ranAnswer ranMemory
-  replies l h = rw (h, e, l) (refl, refl)
+  replies l h e = rw (h, e, l) (refl, refl)
 
   out-by : (task : Task) (rule : Rule) → length x ≡ inputsOf task N →
+      a ≡ refusedAt (numberOf task) 0 0 (firstRead (length x) x) →
       Gives a y (ranReply (numberOf task) (ranBy task rule N ss x) y)
   unfolding inputsOf numberOf ranBy runForward runInverse inside
-  out-by Forward rule lx = replies lx (loop-start _ _ _ _ ss x ∙ loop-refused _ _ _ _ 0 ss x (rw lx at out))
-  out-by Inverse rule lx =
-      replies lx (loop-start _ _ _ _ (reverse ss) x ∙ loop-refused _ _ _ _ 0 (reverse ss) x (rw lx at out))
-  out-by Allowance rule lx = let z : true ≡ false = rw lx at out in let w : _≡_ {A = ℕ} 0 1 = cc in absurd (omega arith)
+  out-by Forward rule lx e = replies lx (loop-start _ _ _ _ ss x ∙ loop-refused _ _ _ _ 0 ss x (rw lx at out)) e
+  out-by Inverse rule lx e =
+      replies lx (loop-start _ _ _ _ (reverse ss) x ∙ loop-refused _ _ _ _ 0 (reverse ss) x (rw lx at out)) e
+  out-by Allowance rule lx e = let z : true ≡ false = rw lx at out in let w : _≡_ {A = ℕ} 0 1 = cc in absurd (omega arith)
 
-  pub run-out : (r : Run) → length x ≡ inputsOf (r .task) N → Gives a y (ranReply (numberOf (r .task)) (ran r N ss x) y)
-  run-out r lx = out-by (r .task) (r .rule) lx
+  pub run-out : (r : Run) → length x ≡ inputsOf (r .task) N →
+      a ≡ refusedAt (numberOf (r .task)) 0 0 (firstRead (length x) x) →
+      Gives a y (ranReply (numberOf (r .task)) (ran r N ss x) y)
+  run-out r lx e = out-by (r .task) (r .rule) lx e

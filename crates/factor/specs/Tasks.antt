@@ -4,10 +4,13 @@ use mathlib.Core.List.{List, reverse}
 use Prim.Native.Nat.{ℕ, suc, _-_, _≤_, _<_}
 use native.Mathlib.Omega.{arith}
 use lib.IntN.{ℤ}
+use lib.ListN.{getD}
+use Rattle.rules.specs.declared.Answer.{Answer}
 use Rattle.rules.specs.declared.Rule.{Rule}
 use Rattle.rules.specs.Numbers.{bound, mostAllowance}
 use Rattle.rules.specs.Stages.{Stage, Ran, forward, undo, allow, inside, firstRead, firstRecovered, run}
 use Rattle.rules.specs.Stages.{runForward, runInverse, runAllowance}
+use Rattle.rules.specs.Answers.{accepted, refusedAt}
 use Rattle.rules.specs.Calls.{Reply, Plan, ruleOf, forwardCall, inverseCall, allowanceCall}
 use Rattle.factor.specs.declared.run.Task.{Task}
 use Rattle.factor.specs.declared.run.Task.the-variants.{Forward, Inverse, Allowance}
@@ -40,6 +43,11 @@ unfoldable pub numberOf : Task → ℕ
 numberOf Forward = 11
 numberOf Inverse = 11
 numberOf Allowance = 13
+
+-- the answer to a run of a block as the code ends it: accepted, or refused at the stage and for the element of a pair
+unfoldable pub endAnswer : ℕ → Bool → List ℕ → Answer
+endAnswer number true pair = accepted
+endAnswer number false pair = refusedAt number 0 (getD pair 0 0) (getD pair 1 0)
 
 -- which of K stages comes after t others, and the stages in that order
 unfoldable pub nthStage : Task → ℕ → ℕ → ℕ

@@ -1,14 +1,16 @@
 // Which run it is, and how it ended: one record for each, for lines and for rectangles.
 ghost use mathlib.Core.Bool.{true, false};
+ghost use mathlib.Core.List.{[], _∷_};
 ghost use mathlib.Core.Path.{_≡_};
 ghost use Prim.Native.Nat.{_<_};
+ghost use lib.ListN.{length};
 ghost use Rattle.rules.specs.Numbers.{count};
 ghost use Rattle.rules.specs.Answers.{start};
 ghost use Rattle.rules.specs.Calls.{ruleOf, ruleChecked};
 ghost use Rattle.laws.specs.Accepted.{Accepted};
 ghost use Rattle.sheetread.specs.Starts.{Starts};
 ghost use Rattle.factor.specs.Rounding.{isDown, toEvens};
-ghost use Rattle.factor.specs.Tasks.{byNumber, isInverse, inputsOf, numberOf, nthStage};
+ghost use Rattle.factor.specs.Tasks.{byNumber, isInverse, inputsOf, numberOf, endAnswer, nthStage};
 use rules::Answer;
 use rules::Rule;
 use rules::Sheet;
@@ -139,6 +141,22 @@ pub fn number_of(task: Task) -> u32
         Task::Inverse => return 11,
         Task::Allowance => return 13,
     }
+}
+
+// Where a run is refused: the stage, and the element that the answer names.
+pub fn note(refused: &mut [usize; 2], stage: usize, element: usize)
+    requires { ⌜ length (now refused) ≡ 2 ⌝ }
+    ensures { λ _. ⌜ now (refused .exit) ≡ stage ∷ element ∷ [] ⌝ }
+{
+    refused[0] = stage;
+    refused[1] = element;
+}
+
+// The answer to a run that is refused there.
+pub fn refusal_of(task: Task, refused: &[usize; 2]) -> Answer
+    ensures { λ a. ⌜ a ≡ endAnswer (numberOf task) false (now (refused .entry)) ⌝ }
+{
+    Answer::refused_at(number_of(task), 0, refused[0] as u64, refused[1] as u64)
 }
 
 // Which of the factors comes after t others.

@@ -4,11 +4,10 @@ ghost use mathlib.Core.Path.{_≡_};
 ghost use Prim.Native.Nat.{_-_, _≤_};
 ghost use lib.ListN.{length};
 ghost use Rattle.rules.specs.Numbers.{mostOrder, count};
-ghost use Rattle.rules.specs.Answers.{refusedAt};
 ghost use Rattle.laws.specs.Accepted.{Accepted};
 ghost use Rattle.laws.specs.AnswersInTurn.{ranReply};
 ghost use Rattle.sheetread.specs.Starts.{Starts};
-ghost use Rattle.factor.specs.Tasks.{inputsOf, numberOf, ran};
+ghost use Rattle.factor.specs.Tasks.{inputsOf, numberOf, endAnswer, ran};
 ghost use Rattle.factor.specs.PaddedBlocks.{paddedBlock};
 ghost use Rattle.factor.specs.RunReplies.{GivesAsked};
 ghost use Rattle.linerun.specs.Runs.{lineStagesOf, namedIn, Refusable};
@@ -17,11 +16,10 @@ use crate::runs::run_stages;
 use factor::block::copy_front;
 use factor::bounds::is_inside;
 use factor::run::Run;
+use factor::run::note;
 use factor::run::nth_start;
-use factor::run::number_of;
 use offender::input::first_beyond;
 use offender::stage::line_element;
-use rules::Answer;
 use rules::Block;
 use rules::Sheet;
 use sheetread::factors::count_at;
@@ -36,32 +34,30 @@ fn load(x: &[i32]) -> [i32; Block::LINE]
     b
 }
 
-// 11 or 13 at a stage; v is the block before it. The element is looked for only here, where the run is refused, and only if it is
-// asked for.
-fn refuse(
+// The element that a refusal at a stage names; v is the block before it. It is looked for only here, where the run is refused, and
+// only if it is asked for.
+fn element(
     named: bool,
     run: Run,
     s: &[i32],
     starts: &[u16; Sheet::FACTORS],
     stage: usize,
     v: [i32; Block::LINE],
-) -> Answer
+) -> usize
     requires { ⌜ Accepted (now s) × Starts (now s) (now starts) × Refusable run (now s) stage v ⌝ }
-    ensures { λ a. ⌜ (a .number ≡ numberOf (run .task))
-        × (named ≡ true → a ≡ refusedAt (numberOf (run .task)) 0 stage (namedIn run (now (s .entry)) (stage - 1) v)) ⌝ }
+    ensures { λ e. ⌜ (named ≡ true → e ≡ namedIn run (now (s .entry)) (stage - 1) v) ⌝ }
 {
-    let task = run.task;
     if !named {
-        return Answer::refused(number_of(task), 0, stage as u64);
+        return 0;
     }
+    let task = run.task;
     let n = count_at(s, 0);
     let i = nth_start(task, s, starts, stage - 1);
     let mut b = v;
-    let e = line_element(run, s, n, i, &mut b);
-    Answer::refused_at(number_of(task), 0, stage as u64, e as u64)
+    line_element(run, s, n, i, &mut b)
 }
 
-// 11 or 13, or what the run gives in y.
+// Whether the run of a block is accepted: then y has what it gives. If not, y stays, and the pair has where it is refused.
 fn run_any(
     named: bool,
     run: Run,
@@ -69,23 +65,32 @@ fn run_any(
     starts: &[u16; Sheet::FACTORS],
     x: &[i32],
     y: &mut [i32],
-) -> Answer
+    refused: &mut [usize; 2],
+) -> bool
     requires { ⌜ Accepted (now s) × Starts (now s) (now starts)
-        × (length (now x) ≡ inputsOf (run .task) (count (now s) 0)) × (length (now y) ≡ count (now s) 0) ⌝ }
-    ensures { λ a. ⌜ GivesAsked named a (now (y .exit))
+        × (length (now x) ≡ inputsOf (run .task) (count (now s) 0)) × (length (now y) ≡ count (now s) 0)
+        × (length (now refused) ≡ 2) ⌝ }
+    ensures { λ ok. ⌜ GivesAsked named (endAnswer (numberOf (run .task)) ok (now (refused .exit))) (now (y .exit))
         (ranReply (numberOf (run .task)) (ran run (count (now (s .entry)) 0) (lineStagesOf (now (s .entry))) (now (x .entry)))
         (now (y .entry))) ⌝ }
 {
     if !is_inside(x) {
-        return Answer::refused_at(11, 0, 0, first_beyond(x) as u64);
+        note(refused, 0, first_beyond(x));
+        return false;
     }
     let r = run_stages(run, s, starts, load(x));
+    let stage = r.outcome.stage;
     if !r.outcome.ok {
-        return refuse(named, run, s, starts, r.outcome.stage, r.block);
+        note(
+            refused,
+            stage,
+            element(named, run, s, starts, stage, r.block),
+        );
+        return false;
     }
     let n = y.len();
     copy_front(&r.block, y, n);
-    Answer::accepted()
+    true
 }
 
 // The same; a block of four is taken by itself, for its speed.
@@ -96,17 +101,19 @@ pub fn run_block(
     starts: &[u16; Sheet::FACTORS],
     x: &[i32],
     y: &mut [i32],
-) -> Answer
+    refused: &mut [usize; 2],
+) -> bool
     requires { ⌜ Accepted (now s) × Starts (now s) (now starts)
-        × (length (now x) ≡ inputsOf (run .task) (count (now s) 0)) × (length (now y) ≡ count (now s) 0) ⌝ }
-    ensures { λ a. ⌜ GivesAsked named a (now (y .exit))
+        × (length (now x) ≡ inputsOf (run .task) (count (now s) 0)) × (length (now y) ≡ count (now s) 0)
+        × (length (now refused) ≡ 2) ⌝ }
+    ensures { λ ok. ⌜ GivesAsked named (endAnswer (numberOf (run .task)) ok (now (refused .exit))) (now (y .exit))
         (ranReply (numberOf (run .task)) (ran run (count (now (s .entry)) 0) (lineStagesOf (now (s .entry))) (now (x .entry)))
         (now (y .entry))) ⌝ }
 {
     let r = run_four(run, s, starts, x);
     if !r.ok {
-        return run_any(named, run, s, starts, x, y);
+        return run_any(named, run, s, starts, x, y, refused);
     }
     copy_front(&r.block, y, 4);
-    Answer::accepted()
+    true
 }

@@ -10,6 +10,7 @@ ghost use Rattle.factor.specs.CallAnswers.{NoneLent, checksOf};
 use factor::lengths::check_lengths;
 use factor::run::Task;
 use factor::run::check_rule;
+use factor::run::refusal_of;
 use factor::run::run_by;
 use rectanglerun::block::run_block;
 use rules::Answer;
@@ -65,7 +66,21 @@ fn call_by(task: Task, rule: u32, col: &[i32], row: &[i32], x: &[i32], y: &mut [
     if a.number != 0 {
         return a;
     }
-    run_block(true, run_by(task, rule), col, row, &columns, &rows, x, y)
+    let mut refused = [0usize; 2];
+    if run_block(
+        true,
+        run_by(task, rule),
+        col,
+        row,
+        &columns,
+        &rows,
+        x,
+        y,
+        &mut refused,
+    ) {
+        return Answer::accepted();
+    }
+    refusal_of(task, &refused)
 }
 
 // Forward: x through the pairs of factors, first to last, into y.

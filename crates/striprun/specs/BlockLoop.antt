@@ -1,7 +1,5 @@
 -- THE STRIP AFTER k BLOCKS, as the loop meets it: the blocks that are done, then what was found.
-use mathlib.Core.Bool.{Bool}
 use mathlib.Core.List.{List, _++_, append-assoc, append-nil}
-use mathlib.Core.Logic.{_⊎_, inl, inr}
 use mathlib.Core.Path.{_≡_, refl, sym, ap, _∙_}
 use Prim.Native.Nat.{ℕ, _+_, _*_, _≤_, _<_}
 use native.Mathlib.Nat.{zero-mul, suc-mul, mul-le-mul-right}
@@ -10,11 +8,10 @@ use native.Mathlib.Omega.{arith}
 use lib.IntN.{ℤ}
 use lib.ListN.{length, take, drop, set, length-append, length-drop, drop-of-length-le}
 use lib.Seq.{take-at, drop-at, drop-drop, drop-cons, set-at, append-snoc}
-use Rattle.rules.specs.declared.Answer.{Answer}
 use Rattle.rules.specs.Calls.{Reply, Plan}
 use Rattle.rules.specs.Strips.{block, blockReply, outputs, bytesOf}
-use Rattle.factor.specs.RunReplies.{GivesAsked}
 use Rattle.laws.specs.Strips.{BlockCall, outputs-length, bytes-length, block-fits, block-length}
+use Rattle.striprun.specs.Plans.{GivesByte}
 
 module _ (p : Plan) (call : List ℤ → List ℤ → Reply ℤ) (x y₀ : List ℤ) (b₀ : List ℕ) where
   pub record BlocksDone (k : ℕ) (y : List ℤ) (b : List ℕ) : Type 0 where
@@ -80,29 +77,18 @@ module _ (p : Plan) (call : List ℤ → List ℤ → Reply ℤ) (x y₀ : List 
 
       -- the same, as the code has it: n numbers a block, a part of w of them
       pub done-step :
-          {named : Bool} (n w : ℕ) → n ≡ p .size → w ≡ n → (ys : List ℤ) (a : Answer) → k < length b₀ →
+          (n w : ℕ) → n ≡ p .size → w ≡ n → (ys : List ℤ) (v : ℕ) → k < length b₀ →
           length ys ≡ length (take w (drop (k * n) y)) →
-          GivesAsked named a ys (call (take w (drop (k * n) x)) (take w (drop (k * n) y))) →
-          BlocksDone (k + 1) (take (k * n) y ++ (ys ++ drop w (drop (k * n) y))) (set b k (a .number))
+          GivesByte v ys (call (take w (drop (k * n) x)) (take w (drop (k * n) y))) →
+          BlocksDone (k + 1) (take (k * n) y ++ (ys ++ drop w (drop (k * n) y))) (set b k v)
       done-step n w e d =
           rw (d, e)
-          (λ ys a l m g.
+          (λ ys v l m g.
           let long = done-long (omega arith) in
           let fits = block-fits k (length b₀) (p .size) l in
-          done-next ys (a .number) l (m ∙ block-length (p .size) k y (omega (arith, long, fits))) (g .memory) (g .number))
+          done-next ys v l (m ∙ block-length (p .size) k y (omega (arith, long, fits))) (g .memory) (g .number))
 
 -- the part that is lent on is a block
 pub lent-long : (p : Plan) (n w k : ℕ) (v : List ℤ) → n ≡ p .size → w ≡ n → k * n + n ≤ length v →
     length (take w (drop (k * n) v)) ≡ p .size
 lent-long p n w k v e d h = rw (d, e) (block-length (p .size) k v (rw e at h))
-
--- its number fits into a byte
-pub number-small :
-    {p : Plan} {call : List ℤ → List ℤ → Reply ℤ} (whole : BlockCall p call) (x y : List ℤ) {named : Bool} {a : Answer}
-    {ys : List ℤ} →
-    p .sheets .number ≡ 0 → length x ≡ p .size → length y ≡ p .size → GivesAsked named a ys (call x y) → a .number ≤ 11
-number-small whole x y h l m g = rw (g .number) (either (whole .number x y h l m))
-  where
-    either : {n : ℕ} → (n ≡ 0) ⊎ (n ≡ 11) → n ≤ 11
-    either (inl e) = omega arith
-    either (inr e) = omega arith

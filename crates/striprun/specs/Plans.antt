@@ -1,12 +1,14 @@
 -- THE STRIPS by shape and run: the plan, and the single call.
+use mathlib.Core.Bool.{Bool, true, false}
 use mathlib.Core.List.{List}
 use mathlib.Core.Path.{_≡_, refl, sym, _∙_}
 use Prim.Native.Nat.{ℕ, _<_}
 use native.Mathlib.Nat.{mul-le-mul}
 use lib.IntN.{ℤ}
 use lib.ListN.{length}
+use Rattle.rules.specs.declared.Answer.{Answer}
 use Rattle.rules.specs.declared.Rule.{Rule}
-use Rattle.rules.specs.Calls.{Plan, line, joint}
+use Rattle.rules.specs.Calls.{Reply, Plan, line, joint}
 use Rattle.rules.specs.Strips.{StripReply, strip, outputs, bytesOf}
 use Rattle.laws.specs.Accepted.{accepted-read, pair-read, accepted-order}
 use Rattle.laws.specs.AnswersInTurn.{ranReply}
@@ -15,7 +17,8 @@ use Rattle.sheetread.specs.Starts.{Starts}
 use Rattle.factor.specs.declared.run.Task.{Task}
 use Rattle.factor.specs.declared.run.Task.the-variants.{Forward, Inverse, Allowance}
 use Rattle.factor.specs.declared.run.Run.{Run}
-use Rattle.factor.specs.Tasks.{inputsOf, numberOf, ran, callBy, callOf}
+use Rattle.factor.specs.Tasks.{inputsOf, numberOf, endAnswer, ran, callBy, callOf}
+use Rattle.factor.specs.RunReplies.{GivesAsked}
 use Rattle.factor.specs.CallAnswers.{NoneLent, block-is-run, lengths-right}
 use Rattle.striprun.specs.declared.blocks.Shape.{Shape}
 use Rattle.striprun.specs.declared.blocks.Shape.the-variants.{Line, Joint}
@@ -86,3 +89,27 @@ pub some-numbers : (shape : Shape) (c r : List ℤ) → planOf shape c r .sheets
 unfolding planOf line joint
 some-numbers Line c r h = accepted-order (accepted-read c h) .least
 some-numbers Joint c r h = let a = pair-read c r h in mul-le-mul (accepted-order (a .0) .least) (accepted-order (a .1) .least)
+
+-- the byte of a block that is accepted, or not: "in its byte, the number, 0 or 11"
+unfoldable pub byteOf : Bool → ℕ
+byteOf true = 0
+byteOf false = 11
+
+-- a block's byte and its output
+pub record GivesByte (b : ℕ) (m : List ℤ) (q : Reply ℤ) : Type 0 where
+  pub number : b ≡ q .answer .number
+  pub memory : m ≡ q .memory
+
+-- the run of a block ends with it
+pub byte-is : (task : Task) → TakesBlocks task → (ok : Bool) (pair : List ℕ) →
+    byteOf ok ≡ endAnswer (numberOf task) ok pair .number
+unfolding TakesBlocks byteOf endAnswer numberOf
+byte-is Forward h true pair = refl
+byte-is Forward h false pair = refl
+byte-is Inverse h true pair = refl
+byte-is Inverse h false pair = refl
+byte-is Allowance h ok pair = absurd h
+
+pub gives-byte :
+    {named : Bool} {a : Answer} {m : List ℤ} {q : Reply ℤ} {b : ℕ} → GivesAsked named a m q → b ≡ a .number → GivesByte b m q
+gives-byte g e = record { number = e ∙ g .number; memory = g .memory }

@@ -1,11 +1,9 @@
 // One block of a strip, of either shape, over sheets that were checked.
-ghost use mathlib.Core.Bool.{false};
 ghost use mathlib.Core.Path.{_≡_};
 ghost use lib.ListN.{length};
 ghost use Rattle.rules.specs.Numbers.{mostCount};
-ghost use Rattle.factor.specs.RunReplies.{GivesAsked};
 ghost use Rattle.factor.specs.Tasks.{callOf};
-ghost use Rattle.striprun.specs.Plans.{planOf, StartsOf, TakesBlocks};
+ghost use Rattle.striprun.specs.Plans.{planOf, StartsOf, TakesBlocks, byteOf, GivesByte};
 use factor::run::Run;
 use rules::Answer;
 use rules::Sheet;
@@ -49,7 +47,17 @@ pub fn size_of(shape: Shape, col: &[i32], row: &[i32]) -> usize
     }
 }
 
-// The single call: its output into y, and its answer. A byte takes its number alone, so no element is asked for.
+// The byte of a block: 0 if it is accepted.
+fn byte_of(ok: bool) -> u8
+    ensures { λ b. ⌜ b ≡ byteOf ok ⌝ }
+{
+    if ok {
+        return 0;
+    }
+    11
+}
+
+// The single call: its output into y, and the byte. A byte takes the number alone, so no element is asked for.
 pub fn run_block(
     shape: Shape,
     run: Run,
@@ -59,18 +67,27 @@ pub fn run_block(
     rows: &[u16; Sheet::FACTORS],
     x: &[i32],
     y: &mut [i32],
-) -> Answer
+) -> u8
     requires { ⌜ TakesBlocks (run .task)
         × (planOf shape (now col) (now row) .sheets .number ≡ 0)
         × (length (now x) ≡ planOf shape (now col) (now row) .size)
         × (length (now y) ≡ planOf shape (now col) (now row) .size)
         × StartsOf shape (now col) (now row) (now columns) (now rows) ⌝ }
-    ensures { λ a. ⌜ GivesAsked false a (now (y .exit))
+    ensures { λ b. ⌜ GivesByte b (now (y .exit))
         (callOf run (planOf shape (now (col .entry)) (now (row .entry))) (now (x .entry)) (now (y .entry))) ⌝ }
 {
+    let mut refused = [0usize; 2];
     match shape {
-        Shape::Line => return linerun::block::run_block(false, run, col, columns, x, y),
-        Shape::Joint => return rectanglerun::block::run_block(
+        Shape::Line => return byte_of(linerun::block::run_block(
+            false,
+            run,
+            col,
+            columns,
+            x,
+            y,
+            &mut refused,
+        )),
+        Shape::Joint => return byte_of(rectanglerun::block::run_block(
             false,
             run,
             col,
@@ -79,6 +96,7 @@ pub fn run_block(
             rows,
             x,
             y,
-        ),
+            &mut refused,
+        )),
     }
 }

@@ -59,8 +59,7 @@ fn run_blocks(
     for k in 0..bytes.len() {
         let o = k * n;
         let e = o + n;
-        let a = run_block(shape, run, col, row, columns, rows, &x[o..e], &mut y[o..e]);
-        bytes[k] = a.number as u8;
+        bytes[k] = run_block(shape, run, col, row, columns, rows, &x[o..e], &mut y[o..e]);
     }
 }
 

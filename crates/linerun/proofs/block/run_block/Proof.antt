@@ -1,10 +1,10 @@
 -- Only an accepted run of four ends here (`replies`).
 use borrow.Author.Needs.{needs}
 use borrow.Author.Tests.{not-false}
-use mathlib.Core.Path.{_≡_, _∙_}
+use mathlib.Core.Path.{_≡_, refl, _∙_}
 use native.Mathlib.Omega.{arith}
 use lib.ListN.{length}
-use Rattle.factor.specs.Tasks.{numberOf}
+use Rattle.factor.specs.Tasks.{numberOf, endAnswer}
 use Rattle.factor.specs.RunReplies.{given-all}
 use Rattle.linerun.specs.Fours.{fill-four, replies}
 use Rattle.linerun.proofs.block.run_block.Statement.{statement}
@@ -33,23 +33,20 @@ copy-front-requires : tie.Need-copy-front-requires
 copy-front-requires c κs =
     let e = c .before .before .before .before in (omega (arith, wide (e .before)), omega (arith, four e))
 
-accepted-requires : tie.Need-accepted-requires
-accepted-requires c κs = search needs
-
 same-length-2 : tie.Need-same-length-2
 same-length-2 c = search needs
 
 returns-2 : tie.Need-returns-2
+unfolding endAnswer
 returns-2 c =
-    let f = c .before .before in
+    let f = c .before in
     let e = f .before .before .before .before .before in
     let s = e .before .before in
     given-all
     (replies (numberOf (s .args .run .task)) (s .args .y .now) (e .before .run-four .ensures (not-false _ (e .if1 .left)) .1)
-    (c .accepted .ensures) (f .copy-front .ensures ∙ fill-four _ _ (wide (e .before)) (four e)))
+    refl (f .copy-front .ensures ∙ fill-four _ _ (wide (e .before)) (four e)))
 
 pub run-block-spec : {M : Type 1} → statement M
 run-block-spec =
     tie.close
-    (tie.spec run-four-requires run-any-requires same-length returns copy-front-requires accepted-requires same-length-2
-    returns-2)
+    (tie.spec run-four-requires run-any-requires same-length returns copy-front-requires same-length-2 returns-2)

@@ -7,12 +7,11 @@ use mathlib.Core.Path.{refl, sym, _∙_}
 use native.Mathlib.Omega.{arith}
 use lib.IntN.{ℤ}
 use Rattle.rules.specs.declared.Answer.{Answer}
-use Rattle.rules.specs.Calls.{ranAnswer}
 use Rattle.laws.specs.Accepted.{order-counts}
 use Rattle.laws.specs.AnswersInTurn.{ranReply}
-use Rattle.factor.specs.Tasks.{numberOf}
-use Rattle.factor.specs.PaddedBlocks.{paddedBlock, ended, ended-done}
-use Rattle.factor.specs.RunReplies.{GivesAsked, given-all, ended-asked, run-ends, run-out}
+use Rattle.factor.specs.Tasks.{numberOf, endAnswer}
+use Rattle.factor.specs.PaddedBlocks.{paddedBlock, ended}
+use Rattle.factor.specs.RunReplies.{GivesAsked, given-all, noted, ended-noted, ended-done, run-ends, run-out}
 use Rattle.rectanglerun.specs.Runs.{jointRan, jointRunBy, stages-good, size-most}
 use Rattle.rectanglerun.proofs.block.run_block.Statement.{statement}
 use Rattle.rectanglerun.proofs.block.run_block.Tie as tie
@@ -23,17 +22,18 @@ is-inside-requires c κs = search needs
 first-beyond-requires : tie.Need-first-beyond-requires
 first-beyond-requires c κs = search needs
 
-refused-at-requires : tie.Need-refused-at-requires
-refused-at-requires c κs = search needs
+note-requires : tie.Need-note-requires
+note-requires c κs = search needs
 
 returns : tie.Need-returns
 returns c =
-    let t = c .before .before in
+    let f = c .before in
+    let t = f .before .before in
     let s = t .before .before in
     let out = sym (t .before .is-inside .ensures) ∙ not-true _ (t .if1 .taken) in
     given-all
-    (run-out _ _ (s .args .x .now) _ out (rw (c .before .first-beyond .ensures) at (c .refused-at .ensures)) (s .args .run)
-    (s .pre .3))
+    (run-out _ _ (s .args .x .now) _ out (s .args .run) (s .pre .3)
+    (noted (rw (f .first-beyond .ensures) at (c .note .ensures))))
 
 load-requires : tie.Need-load-requires
 load-requires c κs =
@@ -57,9 +57,9 @@ run-stages-requires c κs = search needs
 abbrev L : tie.After-run-stages → tie.After-load
 L c = c .before .before .before .before .before
 
-refuse-requires : tie.Need-refuse-requires
-refuse-requires c κs =
-    let t = c .before in
+element-requires : tie.Need-element-requires
+element-requires c κs =
+    let t = c .before .before in
     let r = t .before .before in
     let l = L r in
     let e = l .before .before in
@@ -77,6 +77,9 @@ refuse-requires c κs =
       q .2 _ (l .load .ensures .stands),
     )
 
+note-requires-2 : tie.Need-note-requires-2
+note-requires-2 c κs = search needs
+
 -- the reply to the run of the block in its room is the reply to the run of the lent numbers
 replies :
     (s : tie.Start) {a : Answer} {z : List ℤ} →
@@ -93,38 +96,37 @@ replies s h =
     rw (run-ends 256 (stages-good m) (s .args .x .now) _ (s .pre .4) (s .args .run) (s .pre .3) (size-most m)) at h
 
 returns-2 : tie.Need-returns-2
-unfolding ranAnswer
 returns-2 c =
-    let t = c .before .before in
+    let f = c .before in
+    let t = f .before .before .before in
     let r = t .before .before in
     let l = L r in
     let s = l .before .before .before .before in
     let q = r .run-stages .ensures .0 .stops (not-true _ (t .if2 .taken)) .2 _ (l .load .ensures .stands) in
-    replies s (ended-asked _ (s .args .y .now) (q .is) (c .refuse .ensures .0, λ e. rw (q .is) at (c .refuse .ensures .1 e)))
+    replies s
+    (ended-noted (numberOf (s .args .run .task)) (s .args .y .now) (q .is) (c .note2 .ensures) (f .element .ensures))
 
 store-requires : tie.Need-store-requires
 store-requires c κs = search needs
-
-accepted-requires : tie.Need-accepted-requires
-accepted-requires c κs = search needs
 
 same-length : tie.Need-same-length
 same-length c = search needs
 
 returns-3 : tie.Need-returns-3
+unfolding endAnswer
 returns-3 c =
-    let w = c .before .before in
+    let w = c .before in
     let e = w .before .before .before in
     let r = e .before .before in
     let l = L r in
     let s = l .before .before .before .before in
     let on = r .run-stages .ensures .0 .passes (not-false _ (e .if2 .left)) _ (l .load .ensures .stands) in
     let z = w .store .ensures _ on in
-    replies s (given-all (ended-done _ (s .args .y .now) (z .ends) (c .accepted .ensures) (z .written)))
+    replies s (ended-done (numberOf (s .args .run .task)) (s .args .y .now) (z .ends) refl (z .written))
 
 pub run-block-spec : {M : Type 1} → statement M
 run-block-spec =
     tie.close
-    (tie.spec is-inside-requires first-beyond-requires refused-at-requires returns load-requires stop-of-requires
-    count-at-requires count-at-requires-2 run-stages-requires refuse-requires returns-2 store-requires accepted-requires
+    (tie.spec is-inside-requires first-beyond-requires note-requires returns load-requires stop-of-requires
+    count-at-requires count-at-requires-2 run-stages-requires element-requires note-requires-2 returns-2 store-requires
     same-length returns-3)

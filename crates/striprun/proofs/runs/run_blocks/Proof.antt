@@ -8,7 +8,6 @@ use Rattle.laws.specs.Strips.{block-fits}
 use Rattle.factor.specs.Tasks.{callOf}
 use Rattle.striprun.specs.Plans.{planOf, block-call}
 use Rattle.striprun.specs.BlockLoop.{BlocksDone, none-done, done-long, done-bytes, done-step, all-done, lent-long}
-use Rattle.striprun.specs.BlockLoop.{number-small}
 use Rattle.striprun.proofs.runs.run_blocks.Statement.{statement}
 use Rattle.striprun.proofs.runs.run_blocks.Tie as tie
 
@@ -90,18 +89,6 @@ run-block-requires : tie.Need-run-block-requires Inv-loop μ-loop
 run-block-requires c κs =
     let s = c .before .before .before .before .before in (s .pre .0, s .pre .1, parts c .0, parts c .1, s .pre .5)
 
-cast-bytes : tie.Need-cast-bytes Inv-loop μ-loop
-cast-bytes c =
-    let r = c .before .before in
-    let s = r .before .before .before .before .before .before in
-    let q = parts (r .before) in
-    omega (
-      arith,
-      number-small (block-call (s .args .run) (s .pre .0)
-          (planOf (s .args .shape) (s .args .col .now) (s .args .row .now))) _ _
-          (s .pre .1) (q .0) (q .1) (r .run-block .ensures),
-    )
-
 slice-write-bytes : tie.Need-slice-write-bytes Inv-loop μ-loop
 slice-write-bytes c = search needs
 
@@ -111,7 +98,7 @@ short s = search needs
 
 add-k : tie.Need-add-k Inv-loop μ-loop
 add-k c =
-    let i = c .before .before .before .before .before in
+    let i = c .before .before .before .before in
     omega (arith, i .loop-test .taken, i .before .loop .inv .1, short (i .before .before .before))
 
 loop-less : tie.Need-loop-less Inv-loop μ-loop
@@ -119,7 +106,7 @@ loop-less c = search needs
 
 loop-again : tie.Need-loop-again Inv-loop μ-loop
 loop-again c =
-    let r = c .before .before in
+    let r = c .before in
     let i = r .before .before .before in
     let l = i .before .loop in
     let s = i .before .before .before in
@@ -155,4 +142,4 @@ run-blocks-spec =
     tie.close
     (tie.spec Inv-loop μ-loop loop-holds mul-o add-e mul-run-block sub-run-block
     part-run-block-start part-run-block-end mul-run-block-2 sub-run-block-2 part-run-block-start-2 part-run-block-end-2
-    run-block-requires cast-bytes slice-write-bytes add-k loop-less loop-again same-length same-length-2 returns)
+    run-block-requires slice-write-bytes add-k loop-less loop-again same-length same-length-2 returns)

@@ -1,14 +1,11 @@
 -- The stages before the refused one pass once more (`progress-goes`), and the search names the element of that stage
 -- (`named-there`).
-use borrow.Author.Needs.{needs}
 use borrow.Author.Tests.{not-true}
 use mathlib.Core.Path.{_≡_, sym, ap, _∙_}
 use Prim.Native.Nat.{_-_, _≤_, _<_}
 use native.Mathlib.Omega.{arith}
 use lib.ListN.{length}
-use Rattle.rules.specs.declared.Answer.{Answer}
 use Rattle.rules.specs.Numbers.{count}
-use Rattle.rules.specs.Calls.{ranAnswer}
 use Rattle.laws.specs.Tests.{apart}
 use Rattle.laws.specs.Accepted.{order-counts}
 use Rattle.laws.specs.Sound.{counts-agree}
@@ -16,22 +13,12 @@ use Rattle.factor.specs.Tasks.{nthStage, stage-below, inputs-most}
 use Rattle.factor.specs.PaddedBlocks.{paddedBlock}
 use Rattle.rectanglerun.specs.Runs.{paired, sizeOf, size-most, jointRunBy}
 use Rattle.rectanglerun.specs.Turns.{StandsAt, loads-copied, progress-goes, named-there}
-use Rattle.rectanglerun.proofs.block.refuse.Statement.{statement}
-use Rattle.rectanglerun.proofs.block.refuse.Tie as tie
-
-number-of-requires : tie.Need-number-of-requires
-number-of-requires c κs = search needs
-
-refused-requires : tie.Need-refused-requires
-refused-requires c κs = search needs
+use Rattle.rectanglerun.proofs.block.element.Statement.{statement}
+use Rattle.rectanglerun.proofs.block.element.Tie as tie
 
 -- no element is asked for
 returns : tie.Need-returns
-returns c =
-    let n = c .before in (
-      ap (λ (a : Answer). a .number) (c .refused .ensures) ∙ n .number-of .ensures,
-      λ e. apart (sym e ∙ not-true _ (n .before .if1 .taken)),
-    )
+returns c e = apart (sym e ∙ not-true _ (c .if1 .taken))
 
 sub-t : tie.Need-sub-t
 sub-t c = omega (arith, c .before .pre .6)
@@ -118,34 +105,23 @@ joint-element-requires c κs =
     (stage-below _ _ _ (in-turn s)) e d (j .before .nth-start .ensures) (j .nth-start2 .ensures ∙ rw (agree s)) in
     (p, stands r .small, rw (e, d) (omega (arith, size-most m, r .run-stages .ensures .1)))
 
-number-of-requires-2 : tie.Need-number-of-requires-2
-number-of-requires-2 c κs = search needs
-
-refused-at-requires : tie.Need-refused-at-requires
-refused-at-requires c κs = search needs
-
 returns-2 : tie.Need-returns-2
-unfolding ranAnswer
-returns-2 c =
-    let g = c .before .before in
-    let j = g .before .before in
+returns-2 c z =
+    let j = c .before .before in
     let r = j .before .before in
     let n = r .before .before .before .before in
     let s = S n in
-    let k = named-there (s .args .run) _ _ (s .args .stage) (s .pre .6) (s .pre .7) (stands r) (s .pre .8) in
     let e = rw (
       n .before .count-at .ensures,
       n .count-at2 .ensures,
       j .before .nth-start .ensures,
       j .nth-start2 .ensures,
       agree s,
-    ) at (g .joint-element .ensures) in
-    let told = rw (c .before .number-of2 .ensures, e) at (c .refused-at .ensures) in
-    (ap (λ (a : Answer). a .number) told, λ z. rw k told)
+    ) at (c .joint-element .ensures) in
+    rw e (named-there (s .args .run) _ _ (s .args .stage) (s .pre .6) (s .pre .7) (stands r) (s .pre .8))
 
-pub refuse-spec : {M : Type 1} → statement M
-refuse-spec =
+pub element-spec : {M : Type 1} → statement M
+element-spec =
     tie.close
-    (tie.spec number-of-requires refused-requires returns sub-t count-at-requires count-at-requires-2 copy-front-requires
-    run-stages-requires nth-start-requires nth-start-requires-2 joint-element-requires number-of-requires-2
-    refused-at-requires returns-2)
+    (tie.spec returns sub-t count-at-requires count-at-requires-2 copy-front-requires run-stages-requires nth-start-requires
+    nth-start-requires-2 joint-element-requires returns-2)

@@ -1,31 +1,20 @@
 -- The factor in turn is one of the sheet, and the search names the element of its stage.
 use borrow.Author.Needs.{needs}
 use borrow.Author.Tests.{not-true}
-use mathlib.Core.Path.{_≡_, sym, ap, _∙_}
+use mathlib.Core.Path.{_≡_, sym, _∙_}
 use Prim.Native.Nat.{_-_, _<_}
 use native.Mathlib.Omega.{arith}
 use lib.ListN.{length}
-use Rattle.rules.specs.declared.Answer.{Answer}
 use Rattle.rules.specs.Numbers.{count}
 use Rattle.laws.specs.Tests.{apart}
 use Rattle.laws.specs.Accepted.{accepted-order, order-counts}
 use Rattle.factor.specs.Tasks.{stage-below}
-use Rattle.linerun.proofs.block.refuse.Statement.{statement}
-use Rattle.linerun.proofs.block.refuse.Tie as tie
-
-number-of-requires : tie.Need-number-of-requires
-number-of-requires c κs = search needs
-
-refused-requires : tie.Need-refused-requires
-refused-requires c κs = search needs
+use Rattle.linerun.proofs.block.element.Statement.{statement}
+use Rattle.linerun.proofs.block.element.Tie as tie
 
 -- no element is asked for
 returns : tie.Need-returns
-returns c =
-    let n = c .before in (
-      ap (λ (a : Answer). a .number) (c .refused .ensures) ∙ n .number-of .ensures,
-      λ e. apart (sym e ∙ not-true _ (n .before .if1 .taken)),
-    )
+returns c e = apart (sym e ∙ not-true _ (c .if1 .taken))
 
 count-at-requires : tie.Need-count-at-requires
 count-at-requires c κs = order-counts (c .before .pre .0)
@@ -58,22 +47,14 @@ line-element-requires c κs =
       omega (arith, t .before .count-at .ensures, r .most, len s),
     )
 
-number-of-requires-2 : tie.Need-number-of-requires-2
-number-of-requires-2 c κs = search needs
-
-refused-at-requires : tie.Need-refused-at-requires
-refused-at-requires c κs = search needs
-
 returns-2 : tie.Need-returns-2
-returns-2 c =
-    let e = c .before .before .before in
-    let t = e .before .before in
-    let told = rw (t .nth-start .ensures, t .before .count-at .ensures) at
-    (rw (c .before .number-of2 .ensures, e .line-element .ensures) at (c .refused-at .ensures)) in
-    (ap (λ (a : Answer). a .number) told, λ z. told)
+returns-2 c e =
+    let l = c .before in
+    let t = l .before .before in
+    rw (t .nth-start .ensures, t .before .count-at .ensures) at (l .line-element .ensures)
 
-pub refuse-spec : {M : Type 1} → statement M
-refuse-spec =
+pub element-spec : {M : Type 1} → statement M
+element-spec =
     tie.close
-    (tie.spec number-of-requires refused-requires returns count-at-requires sub-nth-start nth-start-requires
-    slice-aggregate-line-element line-element-requires number-of-requires-2 refused-at-requires returns-2)
+    (tie.spec returns count-at-requires sub-nth-start nth-start-requires slice-aggregate-line-element line-element-requires
+    returns-2)
