@@ -34,8 +34,8 @@ fn load(x: &[i32]) -> [i32; Block::LINE]
     b
 }
 
-// The element that a refusal at a stage names; v is the block before it. It is looked for only here, where the run is refused, and
-// only if it is asked for.
+// The element that a refusal at a stage names; v is the block before it. It is looked for only here, where the run is refused,
+// and only if it is asked for.
 fn element(
     named: bool,
     run: Run,
