@@ -1,11 +1,12 @@
 -- ALL FACTORS OF A LINE: the stages one by one, forward and back, as the loops of the code meet them.
-use mathlib.Core.Bool.{true, false}
+use mathlib.Core.Bool.{Bool, true, false}
 use mathlib.Core.List.{List, [], _∷_, _++_, reverse, reverse-append}
 use mathlib.Core.Path.{_≡_, refl, sym, ap, _∙_}
 use Prim.Native.Nat.{ℕ, suc, _+_, _-_, _≤_, _<_}
 use native.Mathlib.Nat.{sub-self, sub-zero}
 use native.Mathlib.Omega.{arith}
 use lib.IntN.{ℤ}
+use lib.ListN.{length}
 use Rattle.rules.specs.Numbers.{count}
 use Rattle.rules.specs.Factors.{factorAt, factorsFrom, factors}
 use Rattle.rules.specs.Stages.{Stage, done, beyond}
@@ -16,14 +17,18 @@ use Rattle.rules.specs.GoodStages.{AllGood}
 use Rattle.rules.specs.Laws.Runs.{loop-start}
 use Rattle.rules.specs.Laws.Kinds.{lines-good}
 use Rattle.laws.specs.Accepted.{Accepted, further-next}
+use Rattle.laws.specs.AnswersInTurn.{ranReply}
 use Rattle.laws.specs.Sound.{sheet-sound, factors-split}
 use Rattle.laws.specs.Tests.{apart}
+use Rattle.sheetread.specs.Starts.{Starts}
 use Rattle.factor.specs.declared.run.Task.{Task}
 use Rattle.factor.specs.declared.run.Task.the-variants.{Forward, Inverse, Allowance}
 use Rattle.factor.specs.declared.run.Run.{Run}
 use Rattle.factor.specs.declared.run.Outcome.{Outcome}
 use Rattle.factor.specs.SumBounds.{Bounded}
-use Rattle.factor.specs.Tasks.{isInverse, limitOf, nthStage, inOrder, takenBy, nameFirst, nameAfter, runBy}
+use Rattle.factor.specs.Tasks.{isInverse, limitOf, inputsOf, numberOf, endAnswer, nthStage, inOrder, takenBy, nameFirst}
+use Rattle.factor.specs.Tasks.{nameAfter, runBy, ran}
+use Rattle.factor.specs.RunReplies.{GivesAsked}
 use Rattle.factor.specs.StageLoops.{Listed, Stands}
 
 -- the stages of a sheet
@@ -88,6 +93,17 @@ unfolding left inOrder factors further
 left-all s Forward = rw sub-zero
 left-all s Inverse = rw sub-zero
 left-all s Allowance = rw sub-zero
+
+-- ---- the run of a block: what it asks of what is lent, and what it gives
+abbrev pub LineAsks : Run → List ℤ → List ℕ → List ℤ → List ℤ → List ℕ → Type 0
+LineAsks r s starts x y pair =
+    Accepted s × Starts s starts × (length x ≡ inputsOf (r .task) (count s 0)) × (length y ≡ count s 0) × (length pair ≡ 2)
+
+-- ok, the output z and the pair, for the numbers x over the output y
+abbrev pub LineGives : Bool → Run → List ℤ → List ℤ → List ℤ → Bool → List ℤ → List ℕ → Type 0
+LineGives named r s x y ok z pair =
+    GivesAsked named (endAnswer (numberOf (r .task)) ok pair) z
+    (ranReply (numberOf (r .task)) (ran r (count s 0) (lineStagesOf s) x) y)
 
 -- ---- the run of x that is asked for stands at v after t stages
 abbrev pub RunAt : Run → List ℤ → List ℤ → ℕ → List ℤ → Type 0

@@ -3,14 +3,11 @@ ghost use mathlib.Core.Bool.{true};
 ghost use mathlib.Core.Path.{_≡_};
 ghost use Prim.Native.Nat.{_-_, _≤_};
 ghost use lib.ListN.{length};
-ghost use Rattle.rules.specs.Numbers.{mostOrder, count};
+ghost use Rattle.rules.specs.Numbers.{mostOrder};
 ghost use Rattle.laws.specs.Accepted.{Accepted};
-ghost use Rattle.laws.specs.AnswersInTurn.{ranReply};
 ghost use Rattle.sheetread.specs.Starts.{Starts};
-ghost use Rattle.factor.specs.Tasks.{inputsOf, numberOf, endAnswer, ran};
 ghost use Rattle.factor.specs.PaddedBlocks.{paddedBlock};
-ghost use Rattle.factor.specs.RunReplies.{GivesAsked};
-ghost use Rattle.linerun.specs.Runs.{lineStagesOf, namedIn, Refusable};
+ghost use Rattle.linerun.specs.Runs.{LineAsks, LineGives, namedIn, Refusable};
 use crate::fours::run_four;
 use crate::runs::run_stages;
 use factor::block::copy_front;
@@ -67,12 +64,9 @@ fn run_any(
     y: &mut [i32],
     refused: &mut [usize; 2],
 ) -> bool
-    requires { ⌜ Accepted (now s) × Starts (now s) (now starts)
-        × (length (now x) ≡ inputsOf (run .task) (count (now s) 0)) × (length (now y) ≡ count (now s) 0)
-        × (length (now refused) ≡ 2) ⌝ }
-    ensures { λ ok. ⌜ GivesAsked named (endAnswer (numberOf (run .task)) ok (now (refused .exit))) (now (y .exit))
-        (ranReply (numberOf (run .task)) (ran run (count (now (s .entry)) 0) (lineStagesOf (now (s .entry))) (now (x .entry)))
-        (now (y .entry))) ⌝ }
+    requires { ⌜ LineAsks run (now s) (now starts) (now x) (now y) (now refused) ⌝ }
+    ensures { λ ok. ⌜ LineGives named run (now (s .entry)) (now (x .entry)) (now (y .entry)) ok (now (y .exit))
+        (now (refused .exit)) ⌝ }
 {
     if !is_inside(x) {
         note(refused, 0, first_beyond(x));
@@ -103,12 +97,9 @@ pub fn run_block(
     y: &mut [i32],
     refused: &mut [usize; 2],
 ) -> bool
-    requires { ⌜ Accepted (now s) × Starts (now s) (now starts)
-        × (length (now x) ≡ inputsOf (run .task) (count (now s) 0)) × (length (now y) ≡ count (now s) 0)
-        × (length (now refused) ≡ 2) ⌝ }
-    ensures { λ ok. ⌜ GivesAsked named (endAnswer (numberOf (run .task)) ok (now (refused .exit))) (now (y .exit))
-        (ranReply (numberOf (run .task)) (ran run (count (now (s .entry)) 0) (lineStagesOf (now (s .entry))) (now (x .entry)))
-        (now (y .entry))) ⌝ }
+    requires { ⌜ LineAsks run (now s) (now starts) (now x) (now y) (now refused) ⌝ }
+    ensures { λ ok. ⌜ LineGives named run (now (s .entry)) (now (x .entry)) (now (y .entry)) ok (now (y .exit))
+        (now (refused .exit)) ⌝ }
 {
     let r = run_four(run, s, starts, x);
     if !r.ok {
