@@ -7,14 +7,15 @@ use lib.Dec.{eqb, leb}
 use lib.IntN.{ℤ, pos, negℤ}
 use lib.ListN.{length, drop}
 use Rattle.rules.specs.declared.Answer.{Answer}
-use Rattle.rules.specs.Numbers.{count}
+use Rattle.rules.specs.Numbers.{mostOrder, count}
 use Rattle.rules.specs.Factors.{factors}
 use Rattle.rules.specs.declared.Rule.{Rule}
 use Rattle.rules.specs.declared.Rule.the-variants.{Nearest, Down, Even}
 use Rattle.rules.specs.Stages.{Stage, Ran, done, beyond, runForward, runInverse, runAllowance}
-use Rattle.rules.specs.Shapes.{lineStages, jointStages}
+use Rattle.rules.specs.Sheets.{reading}
+use Rattle.rules.specs.Shapes.{lineStages, jointStages, columns, rows, passStages}
 use Rattle.rules.specs.Recipes.{packed, numbersOf, leftOf}
-use Rattle.rules.specs.Answers.{accepted, counted, refused, refusedAt, _or-else_, checked, pairChecked}
+use Rattle.rules.specs.Answers.{accepted, counted, refused, refusedAt, _or-else_, readAnswer, checked, pairChecked}
 
 pub record Reply (A : Type 0) : Type 0 where
   pub answer : Answer
@@ -93,6 +94,34 @@ joint c r = record {
   sheets = pairChecked c r;
   size = count c 0 * count r 0;
   stages = jointStages (count c 0) (count r 0) (factors c) (factors r);
+}
+
+-- request R-4, "a two-pass run: the column sheet down each column, then the row sheet along each row"; "Refusals: as for the
+-- joint run, without 12"
+unfoldable pub twoPass : List ℤ → List ℤ → Plan
+twoPass c r = record {
+  sheets = readAnswer 0 (reading c) or-else readAnswer 1 (reading r);
+  size = count c 0 * count r 0;
+  stages = passStages (columns (count c 0) (count r 0)) (factors c) ++ passStages (rows (count c 0) (count r 0)) (factors r);
+}
+
+-- "the other order given as a number (refused 2, place 0, after the sheet's own faults)"
+abbrev pub orderChecked : ℕ → Answer
+orderChecked n = cond (leb 1 n) (cond (leb n mostOrder) accepted (refused 2 0 0)) (refused 2 0 0)
+
+-- "One pass alone .. is a call too": n2 columns of a column sheet's order, n1 rows of a row sheet's
+unfoldable pub columnPass : List ℤ → ℕ → Plan
+columnPass c n2 = record {
+  sheets = checked c or-else orderChecked n2;
+  size = count c 0 * n2;
+  stages = passStages (columns (count c 0) n2) (factors c);
+}
+
+unfoldable pub rowPass : List ℤ → ℕ → Plan
+rowPass r n1 = record {
+  sheets = checked r or-else orderChecked n1;
+  size = n1 * count r 0;
+  stages = passStages (rows n1 (count r 0)) (factors r);
 }
 
 -- request R-5: "0 as today, 1 floor, 2 nearest with halves to even": the number of each rule

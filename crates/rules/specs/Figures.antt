@@ -19,12 +19,14 @@ use Rattle.rules.specs.Stages.{forward, recover}
 use Rattle.rules.specs.Stages.{undo}
 use Rattle.rules.specs.Stages.{allow, later, run, recovery, runForward, runInverse, runAllowance}
 use Rattle.rules.specs.Shapes.{byTurn, turn, order, inRow, stageOf, lineStage, lineStages, jointSource, jointSign}
-use Rattle.rules.specs.Shapes.{jointWeight, jointShared, jointStage, jointStages}
+use Rattle.rules.specs.Shapes.{jointWeight, jointShared, jointStage, jointStages, Lines, columns, rows, passSource}
+use Rattle.rules.specs.Shapes.{passSign, passWeight, passTurn, passStage, passStages}
 use Rattle.rules.specs.Recipes.{code, value, spell, group, groups, packed, unpack, left, written}
 use Rattle.rules.specs.Answers.{_or-else_, accepted, counted, refused, refusedAt, further, first, matching, pairChecked}
 use Rattle.rules.specs.Strips.{StripReply, stripAnswer, outputs, bytesOf, strip}
 use Rattle.rules.specs.Calls.{Reply, reply, read, write, builtIn, firstPrinting, writeTable, line, joint, ranAnswer}
-use Rattle.rules.specs.Calls.{ranMemory, runReply, forwardCall, inverseCall, allowanceCall, ruleOf, ruled}
+use Rattle.rules.specs.Calls.{ranMemory, runReply, forwardCall, inverseCall, allowanceCall, ruleOf, ruled, twoPass}
+use Rattle.rules.specs.Calls.{columnPass, rowPass}
 
 -- what a case shows, and what document 01 prints for it
 pub data Shown : Type 0 where
@@ -101,6 +103,42 @@ there-and-off = pos 2 ∷ pos 1 ∷ pos 1 ∷ pos 2048 ∷ pos 2 ∷ pos 1 ∷ p
 
 abbrev drifting : List ℤ
 drifting = pos 2 ∷ pos 8 ∷ there-and-off ++ there-and-off ++ there-and-off ++ there-and-off
+
+-- R-4: "triangles for its columns and single rows for its 4 bands"
+abbrev triangles : List ℤ
+triangles =
+    pos 4 ∷ pos 2
+    ∷ pos 2 ∷ pos 1 ∷ pos 1 ∷ pos 1 ∷ pos 1 ∷ neg 4096 ∷ pos 0 ∷ neg 4096 ∷ pos 0 ∷ pos 0 ∷ neg 4096
+    ∷ pos 3 ∷ pos 1 ∷ pos 1 ∷ pos 1 ∷ pos 1 ∷ pos 3072 ∷ pos 2048 ∷ pos 1024 ∷ pos 0 ∷ pos 0 ∷ pos 0
+    ∷ []
+
+abbrev bands : List ℤ
+bands =
+    pos 4 ∷ pos 4
+    ∷ pos 4 ∷ pos 0 ∷ pos 1 ∷ pos 1 ∷ pos 1 ∷ pos 1 ∷ neg 4096 ∷ pos 0 ∷ pos 0
+    ∷ pos 4 ∷ pos 2 ∷ pos 1 ∷ pos 1 ∷ pos 1 ∷ pos 1 ∷ pos 0 ∷ neg 4096 ∷ pos 0
+    ∷ pos 4 ∷ pos 3 ∷ pos 1 ∷ pos 1 ∷ pos 1 ∷ pos 1 ∷ pos 0 ∷ neg 4096 ∷ pos 0
+    ∷ pos 4 ∷ pos 1 ∷ pos 1 ∷ pos 1 ∷ pos 1 ∷ pos 1 ∷ pos 1024 ∷ pos 1024 ∷ pos 1024
+    ∷ []
+
+-- a block of the camera: as it comes, after the column pass, after both passes
+abbrev samples : List ℤ
+samples =
+    four (pos 101) (pos 104) (pos 97) (pos 121) ++ four (pos 103) (pos 107) (pos 98) (pos 124)
+    ++ four (pos 102) (pos 105) (pos 99) (pos 127) ++ four (pos 98) (pos 101) (pos 96) (pos 122)
+
+abbrev between : List ℤ
+between =
+    four (pos 101) (pos 104) (pos 98) (pos 124) ++ four (pos 2) (pos 3) (pos 1) (pos 3)
+    ++ four (neg 1) (neg 2) (pos 1) (pos 3) ++ four (neg 4) (neg 4) (neg 3) (neg 5)
+
+abbrev coefficients : List ℤ
+coefficients =
+    four (neg 3) (pos 107) (neg 6) (pos 20) ++ four (neg 1) (pos 2) (neg 2) (pos 0)
+    ++ four (pos 1) (pos 0) (pos 3) (pos 5) ++ four (pos 0) (neg 4) (pos 1) (neg 1)
+
+abbrev shares : List ℤ
+shares = four (pos 0) (pos 2048) (pos 0) (pos 0)
 
 pub table : List Figure
 table =
@@ -183,6 +221,33 @@ table =
     ∷ gives (ruled 2 allowanceCall (line a) found₂) accepted (two (pos 0) (pos 2048))
     ∷ gives (ruled 3 forwardCall (line []) [] found₂) (refused 16 0 0) found₂
     ∷ gives (ruled 4294967295 allowanceCall (joint [] a) found₂) (refused 16 0 0) found₂
+    -- R-4: "12 forbids the pair", and the two-pass run takes it: forward, back, the allowances
+    ∷ record { found = answer-of (pairChecked triangles bands); printed = answer-of (refused 12 0 0) }
+    ∷ gives (forwardCall Nearest (twoPass triangles bands) samples (nines 16)) accepted coefficients
+    ∷ gives (inverseCall Nearest (twoPass triangles bands) coefficients (nines 16)) accepted samples
+    ∷ gives (allowanceCall Nearest (twoPass triangles bands) (nines 16)) accepted
+    (four (pos 4096) (pos 7168) (pos 4096) (pos 4096) ++ shares ++ shares ++ shares)
+    -- "One pass alone .. is a call too, with the other order given as a number": one and then the other, and back
+    ∷ gives (forwardCall Nearest (columnPass triangles 4) samples (nines 16)) accepted between
+    ∷ gives (forwardCall Nearest (rowPass bands 4) between (nines 16)) accepted coefficients
+    ∷ gives (inverseCall Nearest (rowPass bands 4) coefficients (nines 16)) accepted between
+    ∷ gives (inverseCall Nearest (columnPass triangles 4) between (nines 16)) accepted samples
+    -- case f by two passes ends in 2; with the rows first it would end in 1, as the joint run does
+    ∷ gives (forwardCall Nearest (twoPass a a) (four (pos 1) (pos 1) (pos 0) (pos 0)) found₄) accepted
+    (four (pos 1) (pos 2) (pos 1) (pos 2))
+    ∷ gives (inverseCall Nearest (twoPass a a) (four (pos 1) (pos 2) (pos 1) (pos 2)) found₄) accepted
+    (four (pos 1) (pos 1) (pos 0) (pos 0))
+    -- "The row pass's allowance starts from the column pass's": 2048, and the half of 2048 and 2048 more
+    ∷ gives (allowanceCall Nearest (twoPass a a) found₄) accepted (four (pos 0) (pos 2048) (pos 2048) (pos 5120))
+    -- "Three rounding rules": rules 1 and 2, other kinds and counts on each side
+    ∷ gives (ruled 1 forwardCall (twoPass a b) (four (pos 3) (pos 5) (pos 1) (pos 1)) found₄) accepted
+    (four (neg 6) (neg 6) (neg 4) (neg 4))
+    ∷ gives (ruled 2 inverseCall (twoPass a b) (four (neg 7) (neg 7) (neg 5) (neg 5)) found₄) accepted
+    (four (pos 3) (pos 5) (pos 1) (pos 1))
+    ∷ gives (ruled 1 allowanceCall (twoPass a a) found₄) accepted (four (pos 0) (pos 4096) (pos 4096) (pos 10240))
+    -- three rows of two numbers: the rows change places, then half of a row's first number goes to its second
+    ∷ gives (forwardCall Nearest (twoPass c a) (pos 3 ∷ pos 5 ∷ pos 1 ∷ pos 0 ∷ neg 1 ∷ pos 5 ∷ []) (nines 6)) accepted
+    (neg 1 ∷ pos 5 ∷ pos 3 ∷ pos 7 ∷ pos 1 ∷ pos 1 ∷ [])
     -- h: "entry 16384 is bytes 80 80 02; bytes 84 00 are refused 14"
     ∷ record { found = bytes (written (pos 16384)); printed = bytes (0x80 ∷ 0x80 ∷ 0x02 ∷ []) }
     ∷ gives (read (0x84 ∷ 0x00 ∷ []) found₂) (refused 14 0 0) found₂
@@ -193,9 +258,10 @@ pub figures : map (λ (f : Figure). f .found) table ≡ map (λ (f : Figure). f 
 unfolding table sum go times among faultOf one kindOf triangle weights body factor closed head reading numbers signsAt above
     entriesBefore factorAt factorsFrom factors hasEntry matrix toEven R share ceiling fill inside offender off weighed multiples
     putBack forward recover undo allow later run recovery runForward runInverse runAllowance those byTurn turn order inRow stageOf
-    lineStage lineStages jointSource jointSign jointWeight jointShared jointStage jointStages code value spell group groups packed
-    unpack left _or-else_ further first matching pairChecked reply read write writeTable line joint ranAnswer ranMemory runReply
-    forwardCall inverseCall allowanceCall ruleOf stripAnswer outputs bytesOf strip
+    lineStage lineStages jointSource jointSign jointWeight jointShared jointStage jointStages passSource passSign passWeight
+    passTurn passStage passStages code value spell group groups packed unpack left _or-else_ further first matching pairChecked
+    reply read write writeTable line joint twoPass columnPass rowPass ranAnswer ranMemory runReply forwardCall inverseCall
+    allowanceCall ruleOf stripAnswer outputs bytesOf strip
 figures = refl
 
 -- the recovery orders of a rectangle of three by three, kind 4 with rows 1 and 2
@@ -212,6 +278,19 @@ pub orders : map orderOf (Lower ∷ Upper ∷ Single ∷ []) ≡
     ∷ []
 unfolding those byTurn turn order inRow jointShared
 orders = refl
+
+-- R-7: "line after line by number": a pass over three rows of two numbers, down the columns with row 1 for kind 4, along the rows
+-- with row 0
+abbrev undone : Lines → ℕ → Kind → List ℕ
+undone r m k = recovery 6 (passStage r (middle m k))
+
+pub pass-orders :
+    (map (undone (columns 3 2) 1) (Lower ∷ Upper ∷ Single ∷ [])
+    ≡ (0 ∷ 2 ∷ 4 ∷ 1 ∷ 3 ∷ 5 ∷ []) ∷ (4 ∷ 2 ∷ 0 ∷ 5 ∷ 3 ∷ 1 ∷ []) ∷ (0 ∷ 4 ∷ 2 ∷ 1 ∷ 5 ∷ 3 ∷ []) ∷ [])
+    × (map (undone (rows 3 2) 0) (Lower ∷ Upper ∷ Single ∷ [])
+    ≡ (0 ∷ 1 ∷ 2 ∷ 3 ∷ 4 ∷ 5 ∷ []) ∷ (1 ∷ 0 ∷ 3 ∷ 2 ∷ 5 ∷ 4 ∷ []) ∷ (1 ∷ 0 ∷ 3 ∷ 2 ∷ 5 ∷ 4 ∷ []) ∷ [])
+unfolding those byTurn turn inRow stageOf passTurn passStage recovery
+pass-orders = (refl, refl)
 
 -- "The quotient is a floor, also below zero": sums just below, at and just above a half, on both sides of zero, by each rule, at
 -- the scale of a line and at that of a rectangle

@@ -12,5 +12,8 @@ pub mod Rectangles
 pub mod Kinds
 pub mod ExactProducts
 pub mod Cuts
+pub mod Passes
+pub mod Along
+pub mod PassProducts
 pub mod Padding
 pub mod CosineClose

@@ -14,12 +14,13 @@ use Rattle.rules.specs.Stages.{R, share, ceiling, fill, inside, those, o
 use Rattle.rules.specs.Stages.{recover, undo}
 use Rattle.rules.specs.Stages.{allow, later, run, recovery, runForward, runInverse, runAllowance}
 use Rattle.rules.specs.Shapes.{byTurn, turn, order, inRow, stageOf, lineStage, lineStages, jointSource, jointSign}
-use Rattle.rules.specs.Shapes.{jointWeight, jointShared, jointStage, jointStages}
+use Rattle.rules.specs.Shapes.{jointWeight, jointShared, jointStage, jointStages, passSource, passSign, passWeight}
+use Rattle.rules.specs.Shapes.{passTurn, passStage, passStages}
 use Rattle.rules.specs.Recipes.{code, value, spell, group, groups, packed, unpack, left}
 use Rattle.rules.specs.Answers.{_or-else_, accepted, refused, refusedAt, checked, further, first, matching, pairChecked}
 use Rattle.rules.specs.Calls.{Reply, reply, read, write, Plan, line, joint, ranAnswer, ranMemory, runReply, forwardCall}
 use Rattle.rules.specs.Calls.{inverseCall}
-use Rattle.rules.specs.Calls.{allowanceCall, ruled}
+use Rattle.rules.specs.Calls.{allowanceCall, ruled, twoPass, columnPass, rowPass}
 use Rattle.rules.specs.Figures.{Figure, answer-of, gives, spells, neg, two, three, four, nines, found₂, found₄, a, a-bytes}
 use Rattle.rules.specs.Figures.{b, d, e}
 
@@ -89,6 +90,10 @@ nine x y z t = x ∷ y ∷ pos 0 ∷ z ∷ t ∷ pos 0 ∷ pos 0 ∷ pos 0 ∷ p
 
 abbrev found₃ : List ℤ
 found₃ = three (pos 9) (pos 9) (pos 9)
+
+-- a block of three by two, or of two by three
+abbrev six : ℤ → ℤ → ℤ → ℤ → ℤ → ℤ → List ℤ
+six x y z t u v = x ∷ y ∷ z ∷ t ∷ u ∷ v ∷ []
 
 -- a run refused 11 at a stage for an element, line and pair
 abbrev names : (Plan → List ℤ → List ℤ → Reply ℤ) → Plan → List ℤ → List ℤ → ℕ → ℕ → Figure
@@ -193,6 +198,24 @@ table =
     ∷ names (inverseCall Nearest) (joint (ones (single (pos 1))) (ones (single (pos 0)))) (four top (neg 1) top top) found₄ 1 3
     ∷ names (forwardCall Nearest) (joint (sheet₃ 1 single₃) (sheet₃ 1 single₃)) (nine (pos 1) top top bottom) (nines 9) 1 1
     ∷ names (inverseCall Nearest) (joint (sheet₃ 1 single₃) (sheet₃ 1 single₃)) (nine (neg 1) top top top) (nines 9) 1 3
+    -- R-4, "in a two-pass inverse or the inverse of a pass alone, line after line by number": kind 2 down two columns, where 3 is
+    -- first in reading order and 4 in column 0; kind 3 down two columns, 0 and 2; kind 3 along two rows, 0 and 1
+    ∷ names (forwardCall Nearest) (columnPass (sheet₃ 1 lower₃) 2) (six (pos 1) (pos 1) (pos 0) top top (pos 0)) (nines 6) 1 3
+    ∷ names (inverseCall Nearest) (columnPass (sheet₃ 1 lower₃) 2) (six (neg 1) (neg 1) (pos 0) top top (pos 0)) (nines 6) 1 4
+    ∷ names (forwardCall Nearest) (columnPass (sheet₃ 1 upper₃) 2) (six top top top top (pos 1) (pos 1)) (nines 6) 1 0
+    ∷ names (inverseCall Nearest) (columnPass (sheet₃ 1 upper₃) 2) (six top top top top (neg 1) (neg 1)) (nines 6) 1 2
+    ∷ names (forwardCall Nearest) (rowPass (sheet₃ 1 upper₃) 2) (six top top (pos 1) top top (pos 1)) (nines 6) 1 0
+    ∷ names (inverseCall Nearest) (rowPass (sheet₃ 1 upper₃) 2) (six top top (neg 1) top top (neg 1)) (nines 6) 1 1
+    ∷ names (inverseCall Nearest) (columnPass (sheet₃ 1 lower₃) 2) (six (pos 0) over over (pos 0) (pos 0) (pos 0)) (nines 6) 0 1
+    -- two passes, "counted in the order applied or undone": the columns first, or last
+    ∷ names (forwardCall Nearest) (twoPass (sheet₃ 1 lower₃) (ones upper))
+    (six (pos 1) (pos 1) (pos 0) top top (pos 0)) (nines 6) 1 3
+    ∷ names (forwardCall Nearest) (twoPass (sheet₃ 1 turned₃) (ones upper))
+    (six top (pos 1) (pos 0) (pos 0) top (pos 1)) (nines 6) 2 0
+    ∷ names (inverseCall Nearest) (twoPass e (sheet₃ 1 upper₃)) (six top top (neg 1) top top (neg 1)) (nines 6) 1 1
+    ∷ names (inverseCall Nearest)
+    (twoPass (sheet₃ 1 lower₃) (sheet₂ 2 (permutation (pos 1) (pos 0) ++ upper (pos 1) (pos 1) (pos 4096))))
+    (six (neg 2) (neg 1) top (pos 0) top top) (nines 6) 3 4
     -- 13: "allowance above its limit at some element", at the "first stage"; it names no element. One of 67108863 is accepted,
     -- 67108864 is refused
     ∷ gives (allowanceCall Nearest (line (growing (pos 1768) (pos 533))) found₂) accepted (two (pos 67108863) (pos 41240528))
@@ -200,6 +223,31 @@ table =
     ∷ gives (allowanceCall Nearest (line (growing (pos 16384) (pos 16384))) found₂) (refused 13 0 9) found₂
     -- 10, of the output, before it
     ∷ gives (allowanceCall Nearest (line (growing (pos 16384) (pos 16384))) []) (refused 10 1 0) []
+    -- two passes: the row pass at stages after the column pass's one, and from allowances that are not 0, so earlier
+    ∷ gives (allowanceCall Nearest (twoPass (growing (pos 16384) (pos 16384)) e) found₄) (refused 13 0 9) found₄
+    ∷ gives (allowanceCall Nearest (twoPass e (growing (pos 16384) (pos 16384))) found₄) (refused 13 0 10) found₄
+    ∷ gives (allowanceCall Nearest (twoPass a (growing (pos 16384) (pos 16384))) found₄) (refused 13 0 8) found₄
+    -- request R-4, "as for the joint run, without 12": the column sheet, the row sheet with side 1, the input, the output
+    ∷ gives (forwardCall Nearest (twoPass (a ++ (pos 0 ∷ [])) []) [] found₄) (refused 9 0 6) found₄
+    ∷ gives (inverseCall Nearest (twoPass a []) [] found₄) (refused 1 1 0) found₄
+    ∷ gives (forwardCall Nearest (twoPass a (ones upper)) [] []) (refused 10 0 0) []
+    ∷ gives (inverseCall Nearest (twoPass a b) (two over over) found₂) (refused 10 0 0) found₂
+    ∷ gives (forwardCall Nearest (twoPass a d) (six over over over over over over) found₂) (refused 10 1 0) found₂
+    ∷ gives (allowanceCall Nearest (twoPass a (sheet₂ 0 [])) []) (refused 3 1 1) []
+    ∷ gives (allowanceCall Nearest (twoPass a (growing (pos 16384) (pos 16384))) []) (refused 10 1 0) []
+    -- a pass alone: the sheet, with side 0 whichever way it goes; the other order, "refused 2, place 0, after the sheet's own
+    -- faults"; the input, the output. 1 and 16 are orders
+    ∷ gives (forwardCall Nearest (columnPass (a ++ (pos 0 ∷ [])) 0) [] found₂) (refused 9 0 6) found₂
+    ∷ gives (inverseCall Nearest (rowPass (sheet₂ 0 []) 17) [] found₂) (refused 3 0 1) found₂
+    ∷ gives (forwardCall Nearest (columnPass a 0) [] []) (refused 2 0 0) []
+    ∷ gives (inverseCall Nearest (columnPass a 17) [] found₂) (refused 2 0 0) found₂
+    ∷ gives (forwardCall Nearest (rowPass a 0) (two over over) found₂) (refused 2 0 0) found₂
+    ∷ gives (inverseCall Nearest (rowPass a 17) [] found₂) (refused 2 0 0) found₂
+    ∷ gives (forwardCall Nearest (rowPass a 4294967295) [] []) (refused 2 0 0) []
+    ∷ gives (forwardCall Nearest (columnPass a 16) [] []) (refused 10 0 0) []
+    ∷ gives (inverseCall Nearest (rowPass a 16) (two over over) found₂) (refused 10 0 0) found₂
+    ∷ gives (forwardCall Nearest (columnPass a 1) (two over over) found₄) (refused 10 1 0) found₄
+    ∷ gives (inverseCall Nearest (rowPass a 2) (four over over over over) found₂) (refused 10 1 0) found₂
     -- 14: "number cut, too long or not shortest", at "its first byte"
     ∷ gives (read (0x04 ∷ 0x80 ∷ []) found₂) (refused 14 0 1) found₂
     ∷ gives (read (0x80 ∷ 0x80 ∷ 0x80 ∷ 0x01 ∷ []) found₂) (refused 14 0 0) found₂
@@ -219,6 +267,10 @@ table =
     ∷ gives (ruled 256 forwardCall (line a) (two (pos 1) (pos 2)) found₄) (refused 16 0 0) found₄
     ∷ gives (ruled 65536 inverseCall (line e) (two (pos 16777216) (pos 0)) found₂) (refused 16 0 0) found₂
     ∷ gives (ruled 4294967295 allowanceCall (line (growing (pos 16384) (pos 16384))) found₂) (refused 16 0 0) found₂
+    ∷ gives (ruled 3 forwardCall (twoPass [] []) [] []) (refused 16 0 0) []
+    ∷ gives (ruled 3 allowanceCall (twoPass a []) []) (refused 16 0 0) []
+    ∷ gives (ruled 3 inverseCall (columnPass [] 0) [] []) (refused 16 0 0) []
+    ∷ gives (ruled 3 forwardCall (rowPass a 17) [] []) (refused 16 0 0) []
     ∷ []
 
 -- every case answers what document 01 says
@@ -226,7 +278,7 @@ pub refusals : map (λ (f : Figure). f .found) table ≡ map (λ (f : Figure). f
 unfolding table turns sum go times among faultOf one kindOf triangle weights body factor closed head reading numbers signsAt above
     entriesBefore factorAt factorsFrom factors hasEntry matrix R share ceiling fill inside offender off weighed multiples putBack
     forward recover undo allow later run recovery runForward runInverse runAllowance those byTurn turn order inRow stageOf
-    lineStage lineStages jointSource jointSign jointWeight jointShared jointStage jointStages code value spell group groups packed
-    unpack left _or-else_ further first matching pairChecked reply read write line joint ranAnswer ranMemory runReply forwardCall
-    inverseCall allowanceCall
+    lineStage lineStages jointSource jointSign jointWeight jointShared jointStage jointStages passSource passSign passWeight
+    passTurn passStage passStages code value spell group groups packed unpack left _or-else_ further first matching pairChecked
+    reply read write line joint twoPass columnPass rowPass ranAnswer ranMemory runReply forwardCall inverseCall allowanceCall
 refusals = refl

@@ -3,7 +3,7 @@ use mathlib.Core.Bool.{cond}
 use mathlib.Core.List.{List, [], _∷_, _++_}
 use Prim.Native.Nat.{ℕ, zero, suc, _+_, _-_, _*_, _/_, _%_}
 use lib.Dec.{eqb}
-use lib.IntN.{ℤ, _*ℤ_}
+use lib.IntN.{ℤ, pos, _*ℤ_}
 use Rattle.rules.specs.declared.Kind.{Kind}
 use Rattle.rules.specs.declared.Kind.the-variants.{Permutation, Lower, Upper, Single}
 use Rattle.rules.specs.Numbers.{unit, unit²}
@@ -72,3 +72,41 @@ unfoldable pub jointStages : ℕ → ℕ → List Factor → List Factor → Lis
 jointStages n1 n2 [] bs = []
 jointStages n1 n2 (a ∷ fs) [] = []
 jointStages n1 n2 (a ∷ fs) (b ∷ bs) = jointStage n1 n2 a b ∷ jointStages n1 n2 fs bs
+
+-- ---- R-4: a factor along each line of a rectangle. An element is number `spot` of line `line`, and `join` makes it of the two
+pub record Lines : Type 0 where
+  pub many : ℕ
+  pub long : ℕ
+  pub line : ℕ → ℕ
+  pub spot : ℕ → ℕ
+  pub join : ℕ → ℕ → ℕ
+
+-- "the column sheet down each column, then the row sheet along each row"
+abbrev pub columns : ℕ → ℕ → Lines
+columns n1 n2 = record { many = n2; long = n1; line = λ e. e % n2; spot = λ e. e / n2; join = λ l i. i * n2 + l }
+
+abbrev pub rows : ℕ → ℕ → Lines
+rows n1 n2 = record { many = n1; long = n2; line = λ e. e / n2; spot = λ e. e % n2; join = λ l i. l * n2 + i }
+
+module _ (r : Lines) (f : Factor) where
+  unfoldable pub passSource : ℕ → ℕ
+  passSource e = r .join (r .line e) (f .place (r .spot e))
+
+  unfoldable pub passSign : ℕ → ℤ
+  passSign e = f .sign (r .spot e)
+
+  unfoldable pub passWeight : ℕ → ℕ → ℤ
+  passWeight e k = cond (eqb (r .line e) (r .line k)) (matrix f (r .spot e) (r .spot k)) (pos 0)
+
+  -- "line after line by number", each line in the factor's recovery order
+  unfoldable pub passTurn : ℕ → ℕ
+  passTurn e = r .line e * (r .long + 4) + turn (f .kind) (r .long) (inRow f (r .spot e)) (r .spot e)
+
+  -- "A stage is one factor over the whole rectangle"
+  unfoldable pub passStage : Stage
+  passStage =
+      stageOf (f .kind) (move unit passSource) (weigh unit passSign passWeight (byTurn (r .many * r .long) (r .many * (r .long + 4)) passTurn))
+
+unfoldable pub passStages : Lines → List Factor → List Stage
+passStages r [] = []
+passStages r (f ∷ fs) = passStage r f ∷ passStages r fs

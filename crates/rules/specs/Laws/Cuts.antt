@@ -24,7 +24,7 @@ lines-count n [] = refl
 lines-count n (f ∷ fs) = rw (lines-count n fs)
 
 -- D = 4096^K of a line
-stage-scale : (kind : Kind) (S : ℕ) (p : ℕ → ℕ) (d : ℕ → ℤ) (w : ℕ → ℕ → ℤ) (o : List ℕ) →
+pub stage-scale : (kind : Kind) (S : ℕ) (p : ℕ → ℕ) (d : ℕ → ℤ) (w : ℕ → ℕ → ℤ) (o : List ℕ) →
     scale (stageOf kind (move S p) (weigh S d w o)) ≡ S
 unfolding scale
 stage-scale kind S p d w o = by-kind (λ s. scale s ≡ S) kind _ _ (λ e. refl) (λ q. refl)

@@ -92,7 +92,7 @@ side-case n f kind s m k a b = go (ℕ-discrete m k) (decLe (turnOf kind n f m) 
     go (no q) (no t) = inr (omega arith, inr (omega arith))
 
 -- ---- a line
-line-ranked : (n : ℕ) (f : Factor) → Ranked n (n + 4) (matrix f) (turnOf (f .kind) n f)
+pub line-ranked : (n : ℕ) (f : Factor) → Ranked n (n + 4) (matrix f) (turnOf (f .kind) n f)
 line-ranked n f = record {
   top = λ m l. turn-top (f .kind) n (inRow f m) m l (omega (arith, row-most f m));
   blind = side-blind n f (f .kind) refl;

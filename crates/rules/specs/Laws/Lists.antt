@@ -3,10 +3,10 @@ use mathlib.Core.Bool.{Bool, true, false, cond}
 use mathlib.Core.List.{List}
 use mathlib.Core.Logic.{_≢_, _⊎_, inl, inr}
 use mathlib.Core.Path.{_≡_, refl, sym, _∙_}
-use Prim.Native.Nat.{ℕ, zero, suc, _≤_, _<_}
+use Prim.Native.Nat.{ℕ, zero, suc, _%_, _≤_, _<_}
 use native.Mathlib.Decide.{ℕ-discrete, decLt, decLe}
 use native.Mathlib.Omega.{arith}
-use borrow.Author.Tests.{eq-eqb, ne-eqb, le-leb, lt-leb}
+use borrow.Author.Tests.{eq-eqb, ne-eqb, eqb-true, le-leb, lt-leb}
 use lib.Dec.{eqb, leb}
 use lib.IntN.{ℤ, pos, natAbs, _*ℤ_, zero-*ℤ}
 use lib.ListN.{length, set, length-set}
@@ -14,7 +14,7 @@ use lib.Seq.{getD-set-same, getD-set-other, ext-getD}
 use Rattle.whole.specs.Diff.{Within}
 use Rattle.whole.specs.Sum.{sum-cong}
 use Rattle.rules.specs.Numbers.{at}
-use Rattle.rules.specs.Stages.{fill, inside, off, weighed, putBack}
+use Rattle.rules.specs.Stages.{fill, inside, off, weighed, multiples, putBack}
 use Rattle.rules.specs.Laws.Membership.{true-false}
 
 -- ---- fill
@@ -116,3 +116,22 @@ weighed-agree N u x y h = sum-cong N _ _ (λ k l. go k (h k l))
     go : (k : ℕ) → (u k ≡ pos 0) ⊎ (at x k ≡ at y k) → u k *ℤ at x k ≡ u k *ℤ at y k
     go k (inl z) = rw z (zero-*ℤ (at x k) ∙ sym (zero-*ℤ (at y k)))
     go k (inr q) = rw q
+
+-- ---- the test for multiples, weight by weight
+pub multiples-yes : (S n : ℕ) (u : ℕ → ℤ) → ((k : ℕ) → k < n → natAbs (u k) % S ≡ 0) → multiples S n u ≡ true
+unfolding multiples
+multiples-yes S zero u h = refl
+multiples-yes S (suc n) u h =
+    rw (eq-eqb (natAbs (u n) % S) 0 (h n (omega arith))) (multiples-yes S n u (λ k l. h k (omega arith)))
+
+pub multiples-at : (S n : ℕ) (u : ℕ → ℤ) → multiples S n u ≡ true → (k : ℕ) → k < n → natAbs (u k) % S ≡ 0
+unfolding multiples
+multiples-at S zero u h k l = absurd (omega arith)
+multiples-at S (suc n) u h k l = go (λ g. multiples-at S n u g k) (eqb (natAbs (u n) % S) 0) refl h (ℕ-discrete k n)
+  where
+    go : (multiples S n u ≡ true → k < n → natAbs (u k) % S ≡ 0) → (b : Bool) → eqb (natAbs (u n) % S) 0 ≡ b →
+        cond b (multiples S n u) false ≡ true →
+        Dec (k ≡ n) → natAbs (u k) % S ≡ 0
+    go ih true e g (yes q) = rw q (eqb-true (natAbs (u n) % S) 0 e)
+    go ih true e g (no q) = ih g (omega arith)
+    go ih false e g d = absurd (true-false g refl)

@@ -29,7 +29,7 @@ unfolding later
 later-later n m (done v) = refl
 later-later n m (beyond s e) = ap (λ (t : ℕ). beyond t e) (omega arith)
 
-later-done : (n : ℕ) (r : Ran) (v : List ℤ) → later n r ≡ done v → r ≡ done v
+pub later-done : (n : ℕ) (r : Ran) (v : List ℤ) → later n r ≡ done v → r ≡ done v
 unfolding later
 later-done n (done u) v h = h
 later-done n (beyond s e) v h = cc
@@ -88,7 +88,7 @@ module _ (ok : List ℤ → Bool) (step : Stage → List ℤ → List ℤ) (name
       go true e = e
       go false e = let z : beyond 0 (name v) ≡ done u = sym (run-refused name ss v e) ∙ h in cc
 
-  run-next : (name : List ℤ → ℕ) (s : Stage) (ss : List Stage) (v u : List ℤ) → ran name (s ∷ ss) v ≡ done u →
+  pub run-next : (name : List ℤ → ℕ) (s : Stage) (ss : List Stage) (v u : List ℤ) → ran name (s ∷ ss) v ≡ done u →
       ran (names s) ss (step s v) ≡ done u
   run-next name s ss v u h = later-done 1 _ u (sym (run-step name s ss v (run-in name (s ∷ ss) v u h)) ∙ h)
 
@@ -160,7 +160,7 @@ module _ (N : ℕ) (ok : List ℤ → Bool) (f g : Stage → List ℤ → List �
       let o = one-back m s q x room (run-in ok f a n (s ∷ ss) x y h) (run-in ok f a (a s) ss (f s x) y k) in
       rw (reverse-cons s ss, cut ok g b m m (reverse ss) (s ∷ []) y, i, o)
 
-all-append : {N : ℕ} {ss us : List Stage} → AllGood N ss → AllGood N us → AllGood N (ss ++ us)
+pub all-append : {N : ℕ} {ss us : List Stage} → AllGood N ss → AllGood N us → AllGood N (ss ++ us)
 all-append AllGood.none b = b
 all-append (AllGood.more q a) b = AllGood.more q (all-append a b)
 
