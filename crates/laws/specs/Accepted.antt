@@ -455,6 +455,16 @@ pair-read c r h =
     let b = both-fine (readAnswer 1 (reading r)) (matching c r) (a .1) in
     (accepted-reading c (read-fine 0 (reading c) (a .0)), accepted-reading r (read-fine 1 (reading r) (b .0)), b .1)
 
+-- the same without 12, as a two-pass run asks
+pub two-read : (c r : List ℤ) → (readAnswer 0 (reading c) or-else readAnswer 1 (reading r)) .number ≡ 0 → Accepted c × Accepted r
+two-read c r h =
+    let a = both-fine (readAnswer 0 (reading c)) (readAnswer 1 (reading r)) h in
+    (accepted-reading c (read-fine 0 (reading c) (a .0)), accepted-reading r (read-fine 1 (reading r) (a .1)))
+
+pub two-accepted : {c r : List ℤ} → Accepted c → Accepted r → readAnswer 0 (reading c) or-else readAnswer 1 (reading r) ≡ accepted
+unfolding _or-else_
+two-accepted a b = rw (reading-accepted a, reading-accepted b)
+
 pub pair-accepted :
     {c r : List ℤ} → Accepted c → Accepted r → matching c r ≡ accepted → pairChecked c r ≡ accepted
 unfolding pairChecked _or-else_

@@ -1,34 +1,24 @@
 -- Factors of an accepted sheet that stand in a row make an accepted sheet of their own; so a sheet is cut in two. Past its
 -- numbers a factor's functions read what follows, so the cut factors are the same only where a factor is looked at
--- (`SameFactor`), and forward runs do not tell them apart. Assumes nothing.
-use mathlib.Core.Bool.{Bool, true, false, cond}
+-- (`SameFactor`). Assumes nothing.
+use mathlib.Core.Bool.{true}
 use mathlib.Core.List.{List, [], _∷_, _++_}
 use mathlib.Core.Logic.{_≢_}
 use mathlib.Core.Path.{_≡_, refl, sym, ap, _∙_, subst}
-use Prim.Native.Nat.{ℕ, zero, suc, _+_, _-_, _*_, _/_, _%_, _≤_, _<_}
-use native.Mathlib.Nat.{mod-lt, div-lt-iff-lt-mul}
+use Prim.Native.Nat.{ℕ, zero, suc, _+_, _-_, _≤_, _<_}
 use native.Mathlib.Omega.{arith}
-use borrow.Author.Tests.{le-leb, eqb-false}
-use lib.Dec.{eqb}
-use lib.IntN.{ℤ, pos, natAbs, _+ℤ_, _*ℤ_}
+use borrow.Author.Tests.{le-leb}
+use lib.IntN.{ℤ, pos, natAbs}
 use lib.ListN.{length, take, drop, length-drop}
 use lib.Seq.{getD-take, getD-drop, length-take-le}
-use Rattle.whole.specs.Sum.{sum-cong}
 use Rattle.rules.specs.declared.Item.{Item}
 use Rattle.rules.specs.declared.Item.the-variants.{Order, Count, KindNumber, Row, Sign, Entry}
 use Rattle.rules.specs.declared.Kind.{Kind}
 use Rattle.rules.specs.declared.Kind.the-variants.{Permutation, Lower, Upper, Single}
-use Rattle.rules.specs.Numbers.{mostCount, unit, unit², bound, at, count}
+use Rattle.rules.specs.Numbers.{mostCount, at, count}
 use Rattle.rules.specs.Sheets.{between, unless, faultOf, kindOf}
-use Rattle.rules.specs.Factors.{Factor, numbers, signsAt, entriesBefore, factorAt, factorsFrom, factors, hasEntry, matrix}
-use Rattle.rules.specs.declared.Rule.{Rule}
-use Rattle.rules.specs.Stages.{R, inside, firstRead, Stage, move, weigh, off, weighed, forward, Ran, later, run, runForward}
-use Rattle.rules.specs.Shapes.{order, stageOf, lineStage, lineStages, jointSource, jointSign, jointWeight, jointStage}
-use Rattle.rules.specs.Shapes.{jointStages}
+use Rattle.rules.specs.Factors.{Factor, numbers, signsAt, entriesBefore, factorAt, factorsFrom, factors, hasEntry}
 use Rattle.rules.specs.Answers.{accepted, further, start, matching}
-use Rattle.rules.specs.Laws.SoundFactors.{AllMatch}
-use Rattle.rules.specs.Laws.Kinds.{by-kind, stage-moves, stage-weighs}
-use Rattle.rules.specs.Laws.Lists.{fill-same}
 use Rattle.laws.specs.Stated.Cuts.{cut, cutFront, cutBack}
 use Rattle.laws.specs.Readers.{Seen, one-fine}
 use Rattle.laws.specs.Accepted.{Stretch, stretch-of, Weights, entriesOf, BodyRead, FactorRead, further-first, further-add}
@@ -332,108 +322,3 @@ module _ {s : List ℤ} (whole : Accepted s) (f : ℕ) (some : 0 < f) (not-all :
       subst (λ (l : List Factor). AllSame (count s 0) l (factors (cutFront s f) ++ factors (cutBack s f)))
       (sym (factors-split s (count s 0) f (count s 1 - f) 2) ∙ ap (λ (x : ℕ). factorsFrom s (count s 0) x 2) e)
       (same-append (cut-same whole 0 f some (omega arith)) (cut-same whole f (count s 1 - f) (omega arith) (omega arith)))
-
--- ---- a forward run does not tell the same factors apart
-
-module _ (rule : Rule) (N : ℕ) (v : List ℤ) where
-  move-same :
-      (S : ℕ) (p q : ℕ → ℕ) → ((e : ℕ) → e < N → p e ≡ q e) → forward rule N (move S p) v ≡ forward rule N (move S q) v
-  unfolding forward
-  move-same S p q h = fill-same N _ _ v (λ e l. ap (at v) (h e l))
-
-  weigh-same :
-      (S : ℕ) (d c : ℕ → ℤ) (w u : ℕ → ℕ → ℤ) (o r : List ℕ) →
-      ((e : ℕ) → e < N → d e ≡ c e) → ((e k : ℕ) → e < N → k < N → w e k ≡ u e k) →
-      forward rule N (weigh S d w o) v ≡ forward rule N (weigh S c u r) v
-  unfolding forward weighed off
-  weigh-same S d c w u o r h g =
-      fill-same N _ _ v
-      (λ e l.
-      rw (h e l)
-      (ap (λ (x : ℤ). (c e *ℤ at v e) +ℤ R rule S x)
-      (sum-cong N _ _ (λ k m. ap (λ (x : ℤ). cond (eqb e k) (pos 0) x *ℤ at v k) (g e k l m)))))
-
-  -- a factor is a move or a weighing by its kind
-  stage-same :
-      {kind other : Kind} (m w x y : Stage) → kind ≡ other →
-      (kind ≡ Permutation → forward rule N m v ≡ forward rule N x v) →
-      (kind ≢ Permutation → forward rule N w v ≡ forward rule N y v) →
-      forward rule N (stageOf kind m w) v ≡ forward rule N (stageOf other x y) v
-  stage-same {kind} {other} m w x y e h g =
-      subst (λ (k : Kind). forward rule N (stageOf kind m w) v ≡ forward rule N (stageOf k x y) v) e
-      (by-kind (λ s. forward rule N s v ≡ forward rule N (stageOf kind x y) v) kind m w
-      (λ q. h q ∙ sym (ap (λ (t : Stage). forward rule N t v) (stage-moves kind x y q)))
-      (λ q. g q ∙ sym (ap (λ (t : Stage). forward rule N t v) (stage-weighs kind x y q))))
-
-matrix-same :
-    {n : ℕ} {f g : Factor} → SameFactor n f g → f .kind ≢ Permutation → (m k : ℕ) → m < n → k < n →
-    matrix f m k ≡ matrix g m k
-unfolding matrix
-matrix-same {n} {f} {g} h q m k a b =
-    rw (sym (h .kind), sym (h .row), sym (h .signs q m a))
-    (split (eqb m k) refl (hasEntry (f .kind) (f .row) m k) refl)
-  where
-    split :
-        (x : Bool) → eqb m k ≡ x → (y : Bool) → hasEntry (f .kind) (f .row) m k ≡ y →
-        cond x (pos unit *ℤ f .sign m) (cond y (f .entry m k) (pos 0))
-        ≡ cond x (pos unit *ℤ f .sign m) (cond y (g .entry m k) (pos 0))
-    split true d y e = refl
-    split false d true e = h .entries m k a b (eqb-false m k d) e
-    split false d false e = refl
-
-line-same :
-    (rule : Rule) {n : ℕ} {f g : Factor} → SameFactor n f g → (v : List ℤ) →
-    forward rule n (lineStage n f) v ≡ forward rule n (lineStage n g) v
-unfolding lineStage
-line-same rule {n} {f} {g} h v =
-    stage-same rule n v _ _ _ _ (h .kind)
-    (λ e. move-same rule n v unit (f .place) (g .place) (h .places e))
-    (λ e. weigh-same rule n v unit (f .sign) (g .sign) (matrix f) (matrix g) _ _ (h .signs e) (matrix-same h e))
-
-pub line-run-same :
-    (rule : Rule) {n : ℕ} {fs gs : List Factor} → AllSame n fs gs → (x : List ℤ) →
-    runForward rule n (lineStages n fs) x ≡ runForward rule n (lineStages n gs) x
-unfolding runForward run lineStages
-line-run-same rule none x = refl
-line-run-same rule {n} (more {g = g} h t) x =
-    rw (line-same rule h x)
-    (ap (λ (r : Ran). cond (inside bound n x) (later 1 r) (Ran.beyond 0 (firstRead n x)))
-    (line-run-same rule t (forward rule n (lineStage n g) x)))
-
--- ---- the same for a rectangle: element e stands in row e / n2 and column e % n2
-in-rectangle : (n1 n2 e : ℕ) → e < n1 * n2 → (e / n2 < n1) × (e % n2 < n2)
-in-rectangle n1 zero e l = absurd (omega arith)
-in-rectangle n1 (suc n2) e l = (div-lt-iff-lt-mul {k = suc n2} (omega arith) .1 l, mod-lt e {m = suc n2} (omega arith))
-
-module _ (rule : Rule) {n1 n2 : ℕ} where
-  joint-same :
-      {A A′ B B′ : Factor} → A .kind ≡ B .kind → SameFactor n1 A A′ → SameFactor n2 B B′ → (v : List ℤ) →
-      forward rule (n1 * n2) (jointStage n1 n2 A B) v ≡ forward rule (n1 * n2) (jointStage n1 n2 A′ B′) v
-  unfolding jointStage jointSource jointSign jointWeight
-  joint-same {A} {A′} {B} {B′} q h g v =
-      stage-same rule (n1 * n2) v _ _ _ _ (h .kind)
-      (λ e.
-      move-same rule (n1 * n2) v unit² _ _
-      (λ i l.
-      let x = in-rectangle n1 n2 i l in
-      rw (h .places e (i / n2) (x .0), g .places (sym q ∙ e) (i % n2) (x .1))))
-      (λ e.
-      weigh-same rule (n1 * n2) v unit² _ _ _ _ _ _
-      (λ i l.
-      let x = in-rectangle n1 n2 i l in
-      rw (h .signs e (i / n2) (x .0), g .signs (λ y. e (q ∙ y)) (i % n2) (x .1)))
-      (λ i k l m.
-      let x = in-rectangle n1 n2 i l in
-      let y = in-rectangle n1 n2 k m in
-      rw
-      (matrix-same h e (i / n2) (k / n2) (x .0) (y .0), matrix-same g (λ z. e (q ∙ z)) (i % n2) (k % n2) (x .1) (y .1))))
-
-  pub joint-run-same :
-      {fs gs hs ks : List Factor} → AllMatch n1 n2 fs hs → AllSame n1 fs gs → AllSame n2 hs ks → (x : List ℤ) →
-      runForward rule (n1 * n2) (jointStages n1 n2 fs hs) x ≡ runForward rule (n1 * n2) (jointStages n1 n2 gs ks) x
-  unfolding runForward run jointStages
-  joint-run-same AllMatch.none none none x = refl
-  joint-run-same (AllMatch.more u w q m) (more {g = g} h t) (more {g = b} c d) x =
-      rw (joint-same q h c x)
-      (ap (λ (r : Ran). cond (inside bound (n1 * n2) x) (later 1 r) (Ran.beyond 0 (firstRead (n1 * n2) x)))
-      (joint-run-same m t d (forward rule (n1 * n2) (jointStage n1 n2 g b) x)))

@@ -20,7 +20,7 @@ use Rattle.laws.specs.Stated.Cuts.{farther, inTwo, CutLaw, cut, cutFront
 use Rattle.laws.specs.Accepted.{Accepted, accepted-read, checked-accepted, pair-read, pair-accepted}
 use Rattle.laws.specs.Sound.{sheets-match, counts-agree}
 use Rattle.laws.specs.Cut.{cut-factors-count, cut-match, front-accepted, back-accepted, cut-factors}
-use Rattle.laws.specs.Cut.{line-run-same, joint-run-same}
+use Rattle.laws.specs.SameStages.{stages-run, lines-same, joints-same}
 use Rattle.laws.specs.AnswersInTurn.{ranReply}
 use Rattle.laws.specs.Plans.{run-ready, forward-length, under-fine}
 
@@ -50,7 +50,7 @@ module _
     (runs :
     (x : List ℤ) → runForward rule (p .size) (p .stages) x
     ≡ follow f (runForward rule (front .size) (front .stages) x) (runForward rule (back .size) (back .stages))) where
-  plans-cut : CutLaw rule p front back f
+  pub plans-cut : CutLaw rule p front back f
   plans-cut = record {
     first = first;
     second = second;
@@ -77,7 +77,7 @@ line-runs :
 line-runs rule {s} a f some not-all x =
     let n = count s 0 in
     let e = lines-count n (factors (cutFront s f)) ∙ cut-factors-count a 0 f some (omega arith) in
-    line-run-same rule (cut-factors a f some not-all) x
+    stages-run (lines-same rule (cut-factors a f some not-all)) x
     ∙ rw (lines-append n (factors (cutFront s f)) (factors (cutBack s f)), cut-forward rule n, e)
 
 pub line-cut :
@@ -117,7 +117,7 @@ module _
   joint-runs x =
       let m = cut-factors-count a 0 f some (omega arith) in
       let l = m ∙ sym (cut-factors-count b 0 f some (omega (arith, not-all-rows))) in
-      joint-run-same rule (sheets-match a b match) (cut-factors a f some not-all) (cut-factors b f some not-all-rows) x
+      stages-run (joints-same rule (sheets-match a b match) (cut-factors a f some not-all) (cut-factors b f some not-all-rows)) x
       ∙ rw (
         joints-append (count c 0) (count r 0) (factors (cutFront c f)) (factors (cutFront r f)) _ _ l,
         cut-forward rule (count c 0 * count r 0),

@@ -13,14 +13,13 @@ use lib.ListN.{length, take}
 use Rattle.rules.specs.declared.Answer.{Answer}
 use Rattle.rules.specs.declared.Mark.{Mark}
 use Rattle.rules.specs.declared.Rule.{Rule}
-use Rattle.rules.specs.Numbers.{bound, mostAllowance, at, count}
+use Rattle.rules.specs.Numbers.{mostOrder, bound, mostAllowance, at, count}
 use Rattle.rules.specs.Sheets.{reading}
 use Rattle.rules.specs.Stages.{inside, those, upTo, offender, Stage, forward, undo, allow, Ran, done, beyond, later, run, through}
 use Rattle.rules.specs.Stages.{recovery, runForward, runInverse, runAllowance}
 use Rattle.rules.specs.Answers.{_or-else_, readAnswer, clash, matching, pairChecked}
-use Rattle.rules.specs.Calls.{Reply, reply, Plan, line, joint, under, sized, ranAnswer, runReply, forwardCall}
-use Rattle.rules.specs.Calls.{inverseCall}
-use Rattle.rules.specs.Calls.{allowanceCall, fitting, read, write, writeTable}
+use Rattle.rules.specs.Calls.{Reply, reply, Plan, line, joint, twoPass, orderChecked, columnPass, rowPass, under, sized}
+use Rattle.rules.specs.Calls.{ranAnswer, runReply, forwardCall, inverseCall, allowanceCall, fitting, read, write, writeTable}
 use Rattle.rules.specs.Recipes.{packed, numbersOf, leftOf}
 use Rattle.rules.specs.Strips.{StripReply, stripAnswer, strip}
 use Rattle.rules.specs.GoodStages.{has, Good, AllGood, moves, weighs}
@@ -248,6 +247,23 @@ line-none s = read-none 0 (reading s)
 pub joint-none : (c r : List ℤ) → NoElement (joint c r .sheets)
 unfolding joint
 joint-none c r = pair-none c r
+
+-- R-4: the two sheets without 12; a sheet, then the other order
+pub two-pass-none : (c r : List ℤ) → NoElement (twoPass c r .sheets)
+unfolding twoPass
+two-pass-none c r = turn-none (read-none 0 (reading c)) (read-none 1 (reading r))
+
+pub order-none : (n : ℕ) → NoElement (orderChecked n)
+order-none n =
+    either (leb 1 n) (either (leb n mostOrder) (record { none = refl }) (record { none = refl })) (record { none = refl })
+
+pub column-none : (c : List ℤ) (n2 : ℕ) → NoElement (columnPass c n2 .sheets)
+unfolding columnPass
+column-none c n2 = turn-none (read-none 0 (reading c)) (order-none n2)
+
+pub row-none : (r : List ℤ) (n1 : ℕ) → NoElement (rowPass r n1 .sheets)
+unfolding rowPass
+row-none r n1 = turn-none (read-none 0 (reading r)) (order-none n1)
 
 pub under-none : (k : ℕ) (p : Plan) → NoElement (p .sheets) → NoElement (under k p .sheets)
 under-none k p h = turn-none (either (leb k 2) (record { none = refl }) (record { none = refl })) h

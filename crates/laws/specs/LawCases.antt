@@ -14,13 +14,15 @@ use Rattle.rules.specs.Stages.{R, share, ceiling, fill, inside, those, offender
 use Rattle.rules.specs.Stages.{exact, later, run}
 use Rattle.rules.specs.Stages.{through, runForward, runAllowance, exactProduct, exactScale}
 use Rattle.rules.specs.Shapes.{byTurn, turn, order, inRow, stageOf, lineStage, lineStages, jointSource, jointSign}
-use Rattle.rules.specs.Shapes.{jointWeight, jointShared, jointStage, jointStages}
+use Rattle.rules.specs.Shapes.{jointWeight, jointShared, jointStage, jointStages, columns, rows, passSource, passSign, passWeight}
+use Rattle.rules.specs.Shapes.{passTurn, passStage, passStages}
 use Rattle.rules.specs.Answers.{_or-else_, accepted, refused, refusedAt, further}
 use Rattle.rules.specs.Calls.{Reply, reply, line, joint, ranAnswer, ranMemory, runReply, forwardCall, allowanceCall}
-use Rattle.rules.specs.Calls.{ruleOf, ruled}
+use Rattle.rules.specs.Calls.{twoPass, columnPass, rowPass, ruleOf, ruled}
 use Rattle.rules.specs.Strips.{stripAnswer, outputs, bytesOf, strip}
 use Rattle.laws.specs.Stated.Calls.{E, D}
 use Rattle.laws.specs.Stated.Cuts.{cut, cutFront, cutBack, farther, inTwo}
+use Rattle.laws.specs.Stated.Passes.{lineOf}
 
 abbrev two : ℤ → ℤ → List ℤ
 two x y = x ∷ y ∷ []
@@ -145,3 +147,63 @@ unfolding sum go times among faultOf one kindOf triangle weights body factor clo
     those byTurn turn order inRow stageOf lineStage lineStages _or-else_ further reply line ranAnswer ranMemory runReply
     forwardCall cut stripAnswer outputs bytesOf strip
 strip-cut-case = refl
+
+-- ---- R-4: sheets of two points that need not match; the lines of a block of 2 rows by 3 numbers
+pub lines-of :
+    (lineOf (columns 2 3) 1 (pos 1 ∷ pos 2 ∷ pos 3 ∷ pos 4 ∷ pos 5 ∷ pos 6 ∷ [])
+    ∷ lineOf (rows 2 3) 1 (pos 1 ∷ pos 2 ∷ pos 3 ∷ pos 4 ∷ pos 5 ∷ pos 6 ∷ [])
+    ∷ [])
+    ≡ (two (pos 2) (pos 5) ∷ (pos 4 ∷ pos 5 ∷ pos 6 ∷ []) ∷ [])
+unfolding lineOf fill
+lines-of = refl
+
+-- THE SCALE OF TWO PASSES counts the factors of both sheets; that of one pass its own
+pub pass-scales :
+    (D (twoPass both half) ∷ D (columnPass both 3) ∷ D (rowPass half 3) ∷ []) ≡ (unit ^ 3 ∷ unit ^ 2 ∷ unit ∷ [])
+unfolding sum go times among faultOf one kindOf triangle weights body factor closed head reading numbers signsAt above
+    entriesBefore factorAt factorsFrom factors hasEntry matrix scale exactScale those byTurn turn inRow stageOf passSource
+    passSign passWeight passTurn passStage passStages twoPass columnPass rowPass
+pass-scales = refl
+
+-- "The row pass's allowance starts from the column pass's": the last is 2048 + 1024 + 2048
+abbrev four : List ℤ
+four = pos 9 ∷ pos 9 ∷ pos 9 ∷ pos 9 ∷ []
+
+pub pass-allowances :
+    (allowanceCall Nearest (columnPass half 2) four .memory
+    ∷ allowanceCall Nearest (rowPass half 2) four .memory
+    ∷ allowanceCall Nearest (twoPass half half) four .memory
+    ∷ [])
+    ≡ ((pos 0 ∷ pos 0 ∷ pos 2048 ∷ pos 2048 ∷ [])
+    ∷ (pos 0 ∷ pos 2048 ∷ pos 0 ∷ pos 2048 ∷ [])
+    ∷ (pos 0 ∷ pos 2048 ∷ pos 2048 ∷ pos 5120 ∷ [])
+    ∷ [])
+unfolding sum go times among faultOf one kindOf triangle weights body factor closed head reading numbers signsAt above
+    entriesBefore factorAt factorsFrom factors hasEntry matrix R share ceiling fill inside offender off weighed multiples forward
+    allow later run runForward runAllowance those byTurn turn inRow stageOf passSource passSign passWeight passTurn passStage
+    passStages _or-else_ reply twoPass columnPass rowPass ranAnswer ranMemory runReply forwardCall allowanceCall
+pass-allowances = refl
+
+-- A CUT BETWEEN THE PASSES: the row pass refuses at its stage 1, the whole at stage 2; element (1,1) grows by its row's first
+abbrev once : List ℤ
+once = pos 2 ∷ pos 1 ∷ pos 2 ∷ pos 1 ∷ pos 1 ∷ pos 4096 ∷ []
+
+abbrev large : List ℤ
+large = pos 16777215 ∷ pos 0 ∷ pos 0 ∷ pos 1 ∷ []
+
+pub pass-cut-case :
+    (forwardCall Nearest (twoPass once once) large four
+    ∷ inTwo 1 (forwardCall Nearest (columnPass once 2) large four) (λ u. forwardCall Nearest (rowPass once 2) u four) four
+    ∷ forwardCall Nearest (columnPass once 2) large four
+    ∷ forwardCall Nearest (rowPass once 2) (pos 16777215 ∷ pos 0 ∷ pos 16777215 ∷ pos 1 ∷ []) four
+    ∷ [])
+    ≡ (record { answer = refusedAt 11 0 2 3; memory = four }
+    ∷ record { answer = refusedAt 11 0 2 3; memory = four }
+    ∷ record { answer = accepted; memory = pos 16777215 ∷ pos 0 ∷ pos 16777215 ∷ pos 1 ∷ [] }
+    ∷ record { answer = refusedAt 11 0 1 3; memory = four }
+    ∷ [])
+unfolding sum go times among faultOf one kindOf triangle weights body factor closed head reading numbers signsAt above
+    entriesBefore factorAt factorsFrom factors hasEntry matrix R fill inside offender off weighed forward later run runForward
+    those byTurn turn inRow stageOf passSource passSign passWeight passTurn passStage passStages _or-else_ further reply twoPass
+    columnPass rowPass ranAnswer ranMemory runReply forwardCall farther inTwo
+pass-cut-case = refl

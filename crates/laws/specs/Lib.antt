@@ -9,9 +9,14 @@ pub mod Prefix
 pub mod LongestSheet
 pub mod Sound
 pub mod Cut
+pub mod SameStages
 pub mod Plans
 pub mod Promises
 pub mod CutLaw
+pub mod Passes
+pub mod PassCuts
+pub mod PassLines
+pub mod PassProducts
 pub mod Returned
 pub mod Strips
 pub mod Elements

@@ -136,7 +136,7 @@ run-accepted p ran x y h = let a = run-read p ran x y h in run-fills p ran x y _
 
 -- ---- a run keeps the length of its list
 module _ (step : Stage → List ℤ → List ℤ) (long : (s : Stage) (v : List ℤ) → length (step s v) ≡ length v) where
-  through-length : (ss : List Stage) (v : List ℤ) → length (through step ss v) ≡ length v
+  pub through-length : (ss : List Stage) (v : List ℤ) → length (through step ss v) ≡ length v
   unfolding through
   through-length [] v = refl
   through-length (s ∷ ss) v = through-length ss (step s v) ∙ long s v
