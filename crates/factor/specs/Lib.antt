@@ -11,6 +11,8 @@ pub mod Magnitudes
 pub mod WholeRows
 pub mod Steps
 pub mod StageLoops
+pub mod SheetStages
 pub mod CallAnswers
 pub mod PaddedBlocks
 pub mod RunReplies
+pub mod PassLines

@@ -14,7 +14,7 @@ use rules::Block;
 use sheetread::factors::count_at;
 
 // The numbers of a line into an array aside. The array is lent: by value it would stand on the stack three times.
-fn copy_line(x: &[i32], n: usize, k: usize, s: usize, v: &mut [i32; Block::LINE])
+pub fn copy_line(x: &[i32], n: usize, k: usize, s: usize, v: &mut [i32; Block::LINE])
     requires { ⌜ (n ≤ mostOrder) × LineIn n k s (now x) ⌝ }
     ensures { λ _. ⌜ now (v .exit) ≡ fill n (λ m. at (now (x .entry)) (k + m * s)) (now (v .entry)) ⌝ }
 {

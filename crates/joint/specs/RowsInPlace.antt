@@ -98,7 +98,7 @@ steps-same f g q zero x h = refl
 steps-same f g q (suc m) x h = rw (steps-same f g q m x (λ u l. h u (omega arith)), h m (omega arith) (inPlace g q m x))
 
 -- the same, where only the blocks on the way are looked at
-steps-along : (f g : List ℤ → ℕ → ℤ) (q : ℕ → ℕ) (m : ℕ) (x : List ℤ) →
+pub steps-along : (f g : List ℤ → ℕ → ℤ) (q : ℕ → ℕ) (m : ℕ) (x : List ℤ) →
     ((u : ℕ) → u < m → f (inPlace f q u x) (q u) ≡ g (inPlace f q u x) (q u)) → inPlace f q m x ≡ inPlace g q m x
 unfolding inPlace
 steps-along f g q zero x h = refl

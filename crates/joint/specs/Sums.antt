@@ -165,7 +165,7 @@ unfolding entriesSum
 wide-runs a r m v = ap₂ _+ℤ_ (sum-cong (r .left) _ _ (λ j b. rw zero-add)) (sum-cong (r .right) _ _ (λ j b. rw add-one))
 
 -- ---- V row by row
-zero-at : (n k : ℕ) → at (replicate n (pos 0)) k ≡ pos 0
+pub zero-at : (n k : ℕ) → at (replicate n (pos 0)) k ≡ pos 0
 zero-at zero zero = refl
 zero-at zero (suc k) = refl
 zero-at (suc n) zero = refl
@@ -199,7 +199,7 @@ added-small n f v s j l h g = record { small = λ c. go c (decLt c n) }
 inside : {a x v : List ℤ} {p m k n w : ℕ} → Adding a p m x k n w v → w ≤ length v
 inside t = omega (arith, t .wide, t .long)
 
-rows-small : {a x v : List ℤ} {p m k n w : ℕ} → Adding a p m x k n w v → (j : ℕ) → j ≤ m → (c : ℕ) →
+pub rows-small : {a x v : List ℤ} {p m k n w : ℕ} → Adding a p m x k n w v → (j : ℕ) → j ≤ m → (c : ℕ) →
     Within (j * product) (rowsSum a p j x k n c)
 unfolding rowsSum
 rows-small t j l c = sum-within j _ (λ i b. within-* (t .entries i (omega arith)) (t .numbers .small _))

@@ -50,7 +50,7 @@ fn add_row(a: i32, x: &[i32; Block::CELLS], k: usize, w: usize, v: &mut [i64; Bl
 
 // The m numbers of a from place p on, each times w numbers of a row of the block: of the first row those from place k on, of each
 // row after it those n places on.
-fn add_rows(
+pub fn add_rows(
     a: &[i32],
     p: usize,
     m: usize,

@@ -1,35 +1,33 @@
 -- ALL FACTORS OF A LINE: the stages one by one, forward and back, as the loops of the code meet them.
 use mathlib.Core.Bool.{Bool, true, false}
-use mathlib.Core.List.{List, [], _∷_, _++_, reverse, reverse-append}
-use mathlib.Core.Path.{_≡_, refl, sym, ap, _∙_}
-use Prim.Native.Nat.{ℕ, suc, _+_, _-_, _≤_, _<_}
-use native.Mathlib.Nat.{sub-self, sub-zero}
+use mathlib.Core.List.{List}
+use mathlib.Core.Path.{_≡_, refl, sym}
+use Prim.Native.Nat.{ℕ, _+_, _-_, _≤_, _<_}
 use native.Mathlib.Omega.{arith}
 use lib.IntN.{ℤ}
 use lib.ListN.{length}
 use Rattle.rules.specs.Numbers.{count}
-use Rattle.rules.specs.Factors.{factorAt, factorsFrom, factors}
+use Rattle.rules.specs.Factors.{factorAt, factors}
 use Rattle.rules.specs.Stages.{Stage, done, beyond}
 use Rattle.rules.specs.Shapes.{lineStage, lineStages}
 use Rattle.rules.specs.Answers.{further}
-use Rattle.rules.specs.Laws.Cuts.{lines-append}
 use Rattle.rules.specs.GoodStages.{AllGood}
 use Rattle.rules.specs.Laws.Runs.{loop-start}
 use Rattle.rules.specs.Laws.Kinds.{lines-good}
-use Rattle.laws.specs.Accepted.{Accepted, further-next}
+use Rattle.laws.specs.Accepted.{Accepted}
 use Rattle.laws.specs.AnswersInTurn.{ranReply}
-use Rattle.laws.specs.Sound.{sheet-sound, factors-split}
+use Rattle.laws.specs.Sound.{sheet-sound}
 use Rattle.laws.specs.Tests.{apart}
 use Rattle.sheetread.specs.Starts.{Starts}
 use Rattle.factor.specs.declared.run.Task.{Task}
-use Rattle.factor.specs.declared.run.Task.the-variants.{Forward, Inverse, Allowance}
 use Rattle.factor.specs.declared.run.Run.{Run}
 use Rattle.factor.specs.declared.run.Outcome.{Outcome}
 use Rattle.factor.specs.SumBounds.{Bounded}
-use Rattle.factor.specs.Tasks.{isInverse, limitOf, inputsOf, numberOf, endAnswer, nthStage, inOrder, takenBy, nameFirst}
+use Rattle.factor.specs.Tasks.{limitOf, inputsOf, numberOf, endAnswer, nthStage, takenBy, nameFirst}
 use Rattle.factor.specs.Tasks.{nameAfter, runBy, ran}
 use Rattle.factor.specs.RunReplies.{GivesAsked}
 use Rattle.factor.specs.StageLoops.{Listed, Stands}
+use Rattle.factor.specs.SheetStages.{Staged, left, left-listed, left-all}
 
 -- the stages of a sheet
 abbrev pub lineStagesOf : List ℤ → List Stage
@@ -42,57 +40,17 @@ stages-good a = lines-good (sheet-sound a)
 abbrev pub at-stage : List ℤ → ℕ → ℕ → Stage
 at-stage s n f = lineStage n (factorAt s n (further s n 2 f))
 
-module _ (s : List ℤ) (n K : ℕ) where
-  -- ---- forward: the stages from the t-th on
-  abbrev ahead : ℕ → List Stage
-  ahead t = lineStages n (factorsFrom s n (K - t) (further s n 2 t))
+lines-staged : (n : ℕ) → Staged (lineStage n) (lineStages n)
+unfolding lineStages
+lines-staged n = record { none = refl; more = λ f fs. refl }
 
-  ahead-listed : Listed K (at-stage s n) ahead
-  unfolding lineStages factorsFrom further
-  ahead-listed = record {
-    next = λ t l. let e : K - t ≡ suc (K - (t + 1)) = omega arith in rw (e, further-next s n 2 t);
-    end = rw (sub-self K);
-  }
+-- the stages that are left after t
+abbrev pub lineLeft : List ℤ → Task → ℕ → List Stage
+lineLeft s task t = left (lineStages (count s 0)) s task t
 
-  -- ---- back: the stages before the last t, the last of them first
-  abbrev behind : ℕ → List Stage
-  behind t = reverse (lineStages n (factorsFrom s n (K - t) 2))
-
-  behind-listed : Listed K (λ t. at-stage s n (K - suc t)) behind
-  behind-listed = record { next = λ t l. one-less t l; end = none-left }
-    where
-      none-left : behind K ≡ []
-      none-left = rw (sub-self K) (unfold factorsFrom in unfold lineStages in refl)
-
-      last : (m : ℕ) → lineStages n (factorsFrom s n (m + 1) 2) ≡ lineStages n (factorsFrom s n m 2) ++ (at-stage s n m ∷ [])
-      last m =
-          ap (lineStages n) (factors-split s n m 1 2) ∙ lines-append n (factorsFrom s n m 2) (factorsFrom s n 1 (further s n 2 m))
-          ∙ (unfold factorsFrom in unfold lineStages in refl)
-
-      one-less : (t : ℕ) → t < K → behind t ≡ at-stage s n (K - suc t) ∷ behind (t + 1)
-      one-less t l =
-          let e : K - t ≡ (K - suc t) + 1 = omega arith in
-          let d : K - (t + 1) ≡ K - suc t = omega arith in
-          rw (e, d, last (K - suc t), reverse-append)
-
-  -- ---- by the task: the stages that are left after t
-  unfoldable pub left : Task → ℕ → List Stage
-  left Forward t = ahead t
-  left Inverse t = behind t
-  left Allowance t = ahead t
-
-  pub left-listed : (task : Task) → Listed K (λ t. at-stage s n (nthStage task K t)) (left task)
-  unfolding left nthStage isInverse
-  left-listed Forward = ahead-listed
-  left-listed Inverse = behind-listed
-  left-listed Allowance = ahead-listed
-
--- before the first, all are left
-pub left-all : (s : List ℤ) (task : Task) → inOrder task (lineStagesOf s) ≡ left s (count s 0) (count s 1) task 0
-unfolding left inOrder factors further
-left-all s Forward = rw sub-zero
-left-all s Inverse = rw sub-zero
-left-all s Allowance = rw sub-zero
+pub line-listed : (s : List ℤ) (task : Task) →
+    Listed (count s 1) (λ t. at-stage s (count s 0) (nthStage task (count s 1) t)) (lineLeft s task)
+line-listed s task = left-listed (lines-staged (count s 0)) s task
 
 -- ---- the run of a block: what it asks of what is lent, and what it gives
 abbrev pub LineAsks : Run → List ℤ → List ℕ → List ℤ → List ℤ → List ℕ → Type 0
@@ -109,10 +67,10 @@ LineGives named r s x y ok z pair =
 abbrev pub RunAt : Run → List ℤ → List ℤ → ℕ → List ℤ → Type 0
 RunAt r s x t v =
     Stands (limitOf (r .task)) (count s 0) (takenBy r (count s 0)) (nameAfter (r .task) (count s 0))
-    (nameFirst (r .task) (count s 0)) (left s (count s 0) (count s 1) (r .task)) (runBy r (count s 0) (lineStagesOf s) x) t v
+    (nameFirst (r .task) (count s 0)) (lineLeft s (r .task)) (runBy r (count s 0) (lineStagesOf s) x) t v
 
 pub run-starts : (r : Run) (s : List ℤ) {x : List ℤ} → Bounded (limitOf (r .task)) x → RunAt r s x 0 x
-run-starts r s h = record { small = h; left = rw (left-all s (r .task)) (loop-start _ _ _ _ _ _) }
+run-starts r s h = record { small = h; left = rw (left-all (lineStages (count s 0)) s (r .task)) (loop-start _ _ _ _ _ _) }
 
 -- ---- the end of a run
 -- the element that is named where the numbers after the stage in turn t are refused; v is the block before it

@@ -4,40 +4,18 @@
 use mathlib.Core.Bool.{Bool, true, false, cond}
 use mathlib.Core.Logic.{_≢_}
 use mathlib.Core.Path.{_≡_, refl, sym, ap, ap₂, _∙_}
-use Prim.Native.Nat.{ℕ, zero, suc, _+_, _*_, _/_, _%_, _<_}
+use Prim.Native.Nat.{ℕ, _+_, _*_, _/_, _%_, _<_}
 use native.Mathlib.Decide.{ℕ-discrete}
 use native.Mathlib.Nat as NatL
 use native.Mathlib.Omega.{arith}
-use borrow.Author.Tests.{eq-eqb, eqb-true}
-use lib.Dec.{eqb}
 use lib.IntN.{ℤ, natAbs}
 use Rattle.whole.specs.Laws.{abs-mul}
 use Rattle.rules.specs.Numbers.{unit, unit²}
 use Rattle.rules.specs.Factors.{Factor, matrix}
 use Rattle.rules.specs.Stages.{off, multiples}
 use Rattle.rules.specs.Shapes.{jointWeight}
-use Rattle.rules.specs.Laws.Lists.{off-self, off-other}
-use Rattle.rules.specs.Laws.Membership.{true-false}
+use Rattle.rules.specs.Laws.Lists.{off-self, off-other, multiples-yes, multiples-at}
 use Rattle.rules.specs.Laws.Rectangles.{row-below, col-below, element-below, row-of, col-of}
-
--- ---- the test, weight by weight
-multiples-yes : (S n : ℕ) (u : ℕ → ℤ) → ((k : ℕ) → k < n → natAbs (u k) % S ≡ 0) → multiples S n u ≡ true
-unfolding multiples
-multiples-yes S zero u h = refl
-multiples-yes S (suc n) u h =
-    rw (eq-eqb (natAbs (u n) % S) 0 (h n (omega arith))) (multiples-yes S n u (λ k l. h k (omega arith)))
-
-multiples-at : (S n : ℕ) (u : ℕ → ℤ) → multiples S n u ≡ true → (k : ℕ) → k < n → natAbs (u k) % S ≡ 0
-unfolding multiples
-multiples-at S zero u h k l = absurd (omega arith)
-multiples-at S (suc n) u h k l = go (λ g. multiples-at S n u g k) (eqb (natAbs (u n) % S) 0) refl h (ℕ-discrete k n)
-  where
-    go : (multiples S n u ≡ true → k < n → natAbs (u k) % S ≡ 0) → (b : Bool) → eqb (natAbs (u n) % S) 0 ≡ b →
-        cond b (multiples S n u) false ≡ true →
-        Dec (k ≡ n) → natAbs (u k) % S ≡ 0
-    go ih true e g (yes q) = rw q (eqb-true (natAbs (u n) % S) 0 e)
-    go ih true e g (no q) = ih g (omega arith)
-    go ih false e g d = absurd (true-false g refl)
 
 -- ---- products
 times-unit : (x y : ℕ) → y ≡ unit → x * y % unit² ≡ 0 → x % unit ≡ 0

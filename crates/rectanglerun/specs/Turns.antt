@@ -1,6 +1,6 @@
 -- THE STAGES IN TURN: what the loop over some of them makes of a run, and the first and the last stage, where these move numbers,
 -- as the copies in and out make them.
-use mathlib.Core.Bool.{Bool, true, false}
+use mathlib.Core.Bool.{Bool, true}
 use mathlib.Core.List.{List}
 use mathlib.Core.Path.{_≡_, refl, sym, ap, _∙_}
 use Prim.Native.Nat.{ℕ, _+_, _-_, _*_, _/_, _%_, _≤_, _<_}
@@ -15,7 +15,6 @@ use Rattle.rules.specs.Stages.{Ran, done, beyond, fill, inside}
 use Rattle.rules.specs.Answers.{start}
 use Rattle.rules.specs.Laws.Lists.{length-fill, fill-at, fill-past}
 use Rattle.rules.specs.Laws.Runs.{loop-start}
-use Rattle.laws.specs.Tests.{apart}
 use Rattle.factor.specs.declared.run.Task.{Task}
 use Rattle.factor.specs.declared.run.Task.the-variants.{Forward, Inverse, Allowance}
 use Rattle.factor.specs.declared.run.Run.{Run}
@@ -28,7 +27,7 @@ use Rattle.factor.specs.MovedInPlace.{movedBy, moved-bounded}
 use Rattle.factor.specs.PaddedBlocks.{paddedBlock, load-is}
 use Rattle.factor.specs.RunReplies.{start-bounded}
 use Rattle.factor.specs.Steps.{step-goes}
-use Rattle.factor.specs.StageLoops.{Stands, stage-passes, stages-done, stage-named}
+use Rattle.factor.specs.StageLoops.{Stands, stage-passes, stages-done, stage-named, Progress, Refused}
 use Rattle.pairmoves.specs.Moves.{sourceOf}
 use Rattle.pairmoves.specs.MovedAside.{placeAt, Places, places-after, MovedInto, moved-over, into-moved, moved-out}
 use Rattle.rectanglerun.specs.StagesAgree.{moves-are}
@@ -40,47 +39,11 @@ StandsAt run c r ran t v =
     Stands (limitOf (run .task)) (sizeOf c r) (takenBy run (sizeOf c r)) (nameAfter (run .task) (sizeOf c r))
     (nameFirst (run .task) (sizeOf c r)) (left c r (run .task)) ran t v
 
--- a run that is refused at a stage
-pub record Refused (ran : Ran) (stage : ℕ) : Type 0 where
-  pub element : ℕ
-  pub is : ran ≡ beyond stage element
-
-pub refused-there : {ran : Ran} {stage element : ℕ} → ran ≡ beyond stage element → Refused ran stage
-refused-there {element = k} h = record { element = k; is = h }
-
--- the loop over the stages: a run that stands at x before them stands at y after them, or is refused
-pub record Progress (run : Run) (c r : List ℤ) (from to : ℕ) (x : List ℤ) (end : Outcome) (y : List ℤ) : Type 0 where
-  pub passes : end .ok ≡ true → (ran : Ran) → StandsAt run c r ran from x → StandsAt run c r ran to y
-  pub stops : end .ok ≡ false → (1 ≤ end .stage) × (end .stage ≤ to)
-      × ((ran : Ran) → StandsAt run c r ran from x → Refused ran (end .stage))
-
-pub progress-passes :
-    {run : Run} {c r : List ℤ} {from to : ℕ} {x y : List ℤ} →
-    ((ran : Ran) → StandsAt run c r ran from x → StandsAt run c r ran to y) →
-    Progress run c r from to x (record { ok = true; stage = 0 }) y
-progress-passes h = record { passes = λ e. h; stops = λ e. apart e }
-
-pub progress-stops :
-    {run : Run} {c r : List ℤ} {from to : ℕ} {x y : List ℤ} (t : ℕ) → t < to →
-    ((ran : Ran) → StandsAt run c r ran from x → Refused ran (t + 1)) →
-    Progress run c r from to x (record { ok = false; stage = t + 1 }) y
-progress-stops t l h = record { passes = λ e. apart (sym e); stops = λ e. (omega arith, omega arith, h) }
-
--- a run that is known to be refused after these stages passes them
-pub progress-goes :
-    {run : Run} {c r : List ℤ} {from to : ℕ} {x : List ℤ} {end : Outcome} {y : List ℤ} {ran : Ran} {stage : ℕ} →
-    Progress run c r from to x end y → StandsAt run c r ran from x → Refused ran stage → to < stage →
-    StandsAt run c r ran to y
-progress-goes {run} {c} {r} {from} {to} {x} {end} {y} {ran} {stage} p s f l = go (end .ok) refl
-  where
-    go : (b : Bool) → end .ok ≡ b → StandsAt run c r ran to y
-    go true e = p .passes e ran s
-    go false e =
-        let q = p .stops e in
-        let g = q .2 ran s in
-        let z : beyond (end .stage) (g .element) ≡ beyond stage (f .element) = sym (g .is) ∙ f .is in
-        let d : end .stage ≡ stage = cc in
-        absurd (omega (arith, q .1))
+-- the loop over some stages
+abbrev pub ProgressAt : Run → List ℤ → List ℤ → ℕ → ℕ → List ℤ → Outcome → List ℤ → Type 0
+ProgressAt run c r from to x end y =
+    Progress (limitOf (run .task)) (sizeOf c r) (takenBy run (sizeOf c r)) (nameAfter (run .task) (sizeOf c r))
+    (nameFirst (run .task) (sizeOf c r)) (left c r (run .task)) from to x end y
 
 -- the copy in: the run of the lent numbers, after the stages that it made
 pub record Loaded (run : Run) (c r x : List ℤ) (t : ℕ) (block : List ℤ) : Type 0 where

@@ -13,7 +13,7 @@ ghost use Rattle.factor.specs.Tasks.{inputsOf, numberOf, endAnswer};
 ghost use Rattle.factor.specs.PaddedBlocks.{paddedBlock};
 ghost use Rattle.factor.specs.RunReplies.{GivesAsked};
 ghost use Rattle.rectanglerun.specs.Runs.{Matched, sizeOf, jointRunBy, jointRan};
-ghost use Rattle.rectanglerun.specs.Turns.{Refused};
+ghost use Rattle.factor.specs.StageLoops.{Refused};
 use crate::ends::load;
 use crate::ends::stop_of;
 use crate::ends::store;

@@ -7,7 +7,7 @@ ghost use Rattle.sheetread.specs.Starts.{Starts};
 ghost use Rattle.factor.specs.SumBounds.{Bounded};
 ghost use Rattle.factor.specs.Tasks.{limitOf};
 ghost use Rattle.rectanglerun.specs.Runs.{Matched};
-ghost use Rattle.rectanglerun.specs.Turns.{Progress};
+ghost use Rattle.rectanglerun.specs.Turns.{ProgressAt};
 use crate::stages::run_stage;
 use factor::run::Outcome;
 use factor::run::Run;
@@ -32,7 +32,7 @@ pub fn run_stages(
     requires { ⌜ Matched (now col) (now row) × Starts (now col) (now columns) × Starts (now row) (now rows)
         × (n1 ≡ count (now col) 0) × (n2 ≡ count (now row) 0) × (from ≤ to) × (to ≤ count (now col) 1)
         × Bounded (limitOf (run .task)) (now x) × (length (now x) ≡ mostCells) ⌝ }
-    ensures { λ r. ⌜ Progress run (now (col .entry)) (now (row .entry)) from to (now (x .entry)) r (now (x .exit))
+    ensures { λ r. ⌜ ProgressAt run (now (col .entry)) (now (row .entry)) from to (now (x .entry)) r (now (x .exit))
         × (length (now (x .exit)) ≡ mostCells) ⌝ }
 {
     let task = run.task;

@@ -18,7 +18,7 @@ use Rattle.factor.specs.Rounding.{ruleBy, by-tests}
 use Rattle.factor.specs.Tasks.{isInverse, limitOf, nthStage, stage-below}
 use Rattle.factor.specs.StageLoops.{stage-passes, stages-done}
 use Rattle.four.specs.Turns.{stageOn, Became}
-use Rattle.linerun.specs.Runs.{at-stage, left-listed, RunAt, run-starts}
+use Rattle.linerun.specs.Runs.{at-stage, line-listed, RunAt, run-starts}
 use Rattle.linerun.specs.Fours.{limit-is, stage-steps}
 use Rattle.linerun.proofs.fours.run_stages_of_four.Statement.{statement}
 use Rattle.linerun.proofs.fours.run_stages_of_four.Tie as tie
@@ -116,7 +116,7 @@ loop-again c =
     let n = s .args .sheet .now in (
       omega arith,
       l .loop .inv .1,
-      stage-passes (left-listed n _ _ (G d .task)) (l .loop .t) (in-turn i) (l .loop .inv .2)
+      stage-passes (line-listed n (G d .task)) (l .loop .t) (in-turn i) (l .loop .inv .2)
           (stage-steps (G d .task) (G d .rule) (count n 0) (at-stage n (count n 0) (T i)) (l .loop .v) (s .pre .3) (told r)
           (not-false _ (c .before .if1 .left)))
           refl,
@@ -128,7 +128,7 @@ returns-2 c t =
     let d = c .before .before .before .before in
     let s = d .before in
     let e : l .t ≡ count (s .args .sheet .now) 1 = omega (arith, l .inv .1) in
-    rw (by-first d) at (stages-done (left-listed (s .args .sheet .now) _ _ (G d .task)) (rw e at (l .inv .2)))
+    rw (by-first d) at (stages-done (line-listed (s .args .sheet .now) (G d .task)) (rw e at (l .inv .2)))
 
 pub run-stages-of-four-spec : {M : Type 1} → statement M
 run-stages-of-four-spec =

@@ -8,7 +8,7 @@ use Rattle.laws.specs.Accepted.{accepted-order, accepted-count, order-counts, c
 use Rattle.factor.specs.Tasks.{limitOf, nthStage, takenBy, stage-below}
 use Rattle.factor.specs.Steps.{Step}
 use Rattle.factor.specs.StageLoops.{stage-passes, stage-stops, stages-done}
-use Rattle.linerun.specs.Runs.{at-stage, left-listed, RunAt, run-starts, run-ends-done, run-ends-stopped}
+use Rattle.linerun.specs.Runs.{at-stage, line-listed, RunAt, run-starts, run-ends-done, run-ends-stopped}
 use Rattle.linerun.proofs.runs.run_stages.Statement.{statement}
 use Rattle.linerun.proofs.runs.run_stages.Tie as tie
 
@@ -88,7 +88,7 @@ returns c =
     let l = i .before in
     let s = l .before .before .before in
     run-ends-stopped (s .args .run) (s .args .sheet .now) (l .loop .t) (in-turn i) (l .loop .inv .3)
-    (stage-stops (left-listed (s .args .sheet .now) _ _ (s .args .run .task)) (l .loop .t) (in-turn i) (l .loop .inv .3) (told r)
+    (stage-stops (line-listed (s .args .sheet .now) (s .args .run .task)) (l .loop .t) (in-turn i) (l .loop .inv .3) (told r)
     (not-true _ (c .if1 .taken)))
 
 add-t : tie.Need-add-t Inv-loop μ-loop
@@ -106,7 +106,7 @@ loop-again c =
       omega arith,
       l .loop .inv .1,
       l .loop .inv .2,
-      stage-passes (left-listed (s .args .sheet .now) _ _ (s .args .run .task)) (l .loop .t) (in-turn i) (l .loop .inv .3)
+      stage-passes (line-listed (s .args .sheet .now) (s .args .run .task)) (l .loop .t) (in-turn i) (l .loop .inv .3)
           (told r)
           (not-false _ (c .before .if1 .left)),
     )
@@ -117,7 +117,7 @@ returns-2 c =
     let s = c .before .before .before .before in
     let e : l .t ≡ count (s .args .sheet .now) 1 = omega (arith, l .inv .2) in
     run-ends-done (s .args .run) (s .args .sheet .now)
-    (stages-done (left-listed (s .args .sheet .now) _ _ (s .args .run .task)) (rw e at (l .inv .3)))
+    (stages-done (line-listed (s .args .sheet .now) (s .args .run .task)) (rw e at (l .inv .3)))
 
 pub run-stages-spec : {M : Type 1} → statement M
 run-stages-spec =

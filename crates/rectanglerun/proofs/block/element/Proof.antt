@@ -11,8 +11,9 @@ use Rattle.laws.specs.Accepted.{order-counts}
 use Rattle.laws.specs.Sound.{counts-agree}
 use Rattle.factor.specs.Tasks.{nthStage, stage-below, inputs-most}
 use Rattle.factor.specs.PaddedBlocks.{paddedBlock}
+use Rattle.factor.specs.StageLoops.{progress-goes}
 use Rattle.rectanglerun.specs.Runs.{paired, sizeOf, size-most, jointRunBy}
-use Rattle.rectanglerun.specs.Turns.{StandsAt, loads-copied, progress-goes, named-there}
+use Rattle.rectanglerun.specs.Turns.{StandsAt, loads-copied, named-there}
 use Rattle.rectanglerun.proofs.block.element.Statement.{statement}
 use Rattle.rectanglerun.proofs.block.element.Tie as tie
 

@@ -17,9 +17,9 @@ use Rattle.factor.specs.declared.run.Run.{Run}
 use Rattle.factor.specs.Tasks.{limitOf, nthStage, takenBy, stage-below}
 use Rattle.factor.specs.SumBounds.{Bounded}
 use Rattle.factor.specs.Steps.{Step}
-use Rattle.factor.specs.StageLoops.{stage-passes, stage-stops}
+use Rattle.factor.specs.StageLoops.{stage-passes, stage-stops, refused-there, progress-passes, progress-stops}
 use Rattle.rectanglerun.specs.Runs.{paired, sizeOf, at-stage, left-listed}
-use Rattle.rectanglerun.specs.Turns.{StandsAt, refused-there, progress-passes, progress-stops}
+use Rattle.rectanglerun.specs.Turns.{StandsAt}
 use Rattle.rectanglerun.proofs.runs.run_stages.Statement.{statement}
 use Rattle.rectanglerun.proofs.runs.run_stages.Tie as tie
 
