@@ -1,33 +1,43 @@
--- THE ELEMENT THAT IS FOUND is the one that the document names: a stage of either shape, moved, applied and undone.
+-- THE ELEMENT THAT IS FOUND is the one that the document names: a stage of any shape, moved, applied and undone.
+use mathlib.Core.Bool.{Bool, true, false}
 use mathlib.Core.List.{List}
+use mathlib.Core.Logic.{_≢_}
 use mathlib.Core.Path.{_≡_, refl, subst}
-use Prim.Native.Nat.{ℕ, _+_, _≤_}
+use Prim.Native.Nat.{ℕ, _+_, _*_, _≤_}
 use native.Mathlib.Omega.{arith}
 use lib.IntN.{ℤ}
 use lib.ListN.{length}
 use Rattle.rules.specs.declared.Kind.the-variants.{Permutation}
 use Rattle.rules.specs.declared.Rule.{Rule}
-use Rattle.rules.specs.Numbers.{bound, count}
+use Rattle.rules.specs.Numbers.{mostOrder, unit, bound, count}
 use Rattle.rules.specs.Sheets.{kindOf}
 use Rattle.rules.specs.Factors.{Factor, factorAt}
 use Rattle.rules.specs.Stages.{Stage, move, weigh, fill, upTo, forward, undo, recovery, firstRead}
-use Rattle.rules.specs.Shapes.{byTurn, turn, order, lineStage, jointStage}
+use Rattle.rules.specs.Shapes.{byTurn, order, lineStage, jointStage, passSign, passWeight, passTurn, passStage}
 use Rattle.rules.specs.GoodStages.{Good, Recovers}
 use Rattle.rules.specs.Laws.SoundFactors.{good-recovers}
 use Rattle.rules.specs.Laws.Kinds.{line-good, joint-good, stage-moves, stage-weighs}
 use Rattle.rules.specs.Laws.Offenders.{none-beyond}
+use Rattle.rules.specs.Laws.Passes.{pass-good}
+use Rattle.laws.specs.Accepted.{FactorRead}
 use Rattle.laws.specs.Sound.{factor-sound}
 use Rattle.factor.specs.declared.run.Task.{Task}
 use Rattle.factor.specs.declared.run.Task.the-variants.{Forward, Inverse, Allowance}
 use Rattle.factor.specs.SumBounds.{Bounded, bounded-fill, bounded-put}
+use Rattle.factor.specs.LayoutInSheet.{Paired}
+use Rattle.factor.specs.PassLines.{linesBy, lines-long, tiles-by}
 use Rattle.factor.specs.Tasks.{limitOf, nameAfter, stageBy}
 use Rattle.offender.specs.declared.weights.Shape.{Shape}
-use Rattle.offender.specs.declared.weights.Shape.the-variants.{Line, Joint}
+use Rattle.offender.specs.declared.weights.Shape.the-variants.{Line, Joint, Pass}
 use Rattle.offender.specs.declared.weights.Refused.{Refused}
 use Rattle.offender.specs.Search.{searched-is}
-use Rattle.offender.specs.RefusedStages.{cellsBy, scaleBy, signBy, weightBy, sharedBy, stageShaped}
-use Rattle.offender.specs.RefusedStages.{cells, signOf, weightOf, stageOf, turnOf, orderOf, appliedOf, searchOf}
+use Rattle.offender.specs.RefusedStages.{cellsBy, turnsBy, scaleBy, signBy, weightBy, turnBy, stageShaped}
+use Rattle.offender.specs.RefusedStages.{cells, signOf, weightOf, stageOf, orderOf, appliedOf, searchOf}
 use Rattle.offender.specs.RefusedStages.{Weighed}
+
+-- ---- a factor with itself for a partner
+pub alone : {s : List ℤ} {n i : ℕ} → 1 ≤ n → n ≤ mostOrder → FactorRead s n i → Paired s s n n i i
+alone l m h = record { some1 = l; most1 = m; column = h; some2 = l; most2 = m; row = h; match = refl }
 
 -- ---- a permutation: moved numbers stay in bound
 moved-none : (task : Task) (rule : Rule) (N S : ℕ) (p : ℕ → ℕ) {v : List ℤ} → Bounded (limitOf task) v →
@@ -48,14 +58,23 @@ none-moved task rule q c r {v} k h = go (q .shape)
     moving N e z = rw e z
 
     go : (s : Shape) →
-        let t = stageShaped (q .n1) (q .n2) (factorAt c (q .n1) (q .i)) (factorAt r (q .n2) (q .j)) s in
+        let t = stageShaped q (factorAt c (q .n1) (q .i)) (factorAt r (q .n2) (q .j)) s in
         nameAfter task (cells q) t (stageBy task rule (cells q) t v) ≡ 0
     go Line =
         unfold stageShaped lineStage factorAt in moving (cells q) (stage-moves _ _ _ k) (moved-none task rule (cells q) _ _ h)
     go Joint =
         unfold stageShaped jointStage factorAt in moving (cells q) (stage-moves _ _ _ k) (moved-none task rule (cells q) _ _ h)
+    go Pass =
+        unfold stageShaped passStage factorAt in moving (cells q) (stage-moves _ _ _ k) (moved-none task rule (cells q) _ _ h)
 
 -- ---- a stage with weights
+pass-weighs : (down : Bool) (many n : ℕ) (f : Factor) → f .kind ≢ Permutation →
+    let r = linesBy down many n in
+    passStage r f ≡ weigh unit (passSign r f) (passWeight r f) (byTurn (many * n) (many * (n + 4)) (passTurn r f))
+unfolding linesBy passStage
+pass-weighs true many n f q = stage-weighs _ _ _ q
+pass-weighs false many n f q = stage-weighs _ _ _ q
+
 module _ {q : Refused} {c r : List ℤ} (h : Weighed q c r) where
   abbrev A : Factor
   A = factorAt c (q .n1) (q .i)
@@ -65,30 +84,34 @@ module _ {q : Refused} {c r : List ℤ} (h : Weighed q c r) where
 
   -- it is the document's
   weighing : stageOf q c r ≡ weigh (scaleBy (q .shape)) (signOf q c r) (weightOf q c r) (orderOf q c r)
-  unfolding turnOf
   weighing = go (q .shape)
     where
       go : (s : Shape) →
-          stageShaped (q .n1) (q .n2) A B s
-          ≡ weigh (scaleBy s) (signBy (q .n1) (q .n2) A B s) (weightBy (q .n1) (q .n2) A B s)
-          (byTurn (cellsBy s (q .n1) (q .n2)) (cellsBy s (q .n1) (q .n2) + 4)
-          (λ e. turn (kindOf (count c (q .i))) (cellsBy s (q .n1) (q .n2)) (sharedBy (q .n1) (q .n2) A B s e) e))
+          stageShaped q A B s ≡ weigh (scaleBy s) (signBy q A B s) (weightBy q A B s)
+          (byTurn (cellsBy q s) (turnsBy q s) (turnBy q A B s))
       go Line =
-          unfold cellsBy scaleBy signBy weightBy sharedBy stageShaped lineStage order factorAt in
+          unfold cellsBy turnsBy scaleBy signBy weightBy turnBy stageShaped lineStage order factorAt in
           stage-weighs _ _ _ (h .weighs)
       go Joint =
-          unfold cellsBy scaleBy signBy weightBy sharedBy stageShaped jointStage order factorAt in
+          unfold cellsBy turnsBy scaleBy signBy weightBy turnBy stageShaped jointStage order factorAt in
           stage-weighs _ _ _ (h .weighs)
+      go Pass =
+          unfold cellsBy turnsBy scaleBy signBy weightBy turnBy stageShaped factorAt in
+          pass-weighs (q .down) (q .many) (q .n1) A (h .weighs)
 
   good : Good (cells q) (stageOf q c r)
   good = go (q .shape)
     where
-      go : (s : Shape) → Good (cellsBy s (q .n1) (q .n2)) (stageShaped (q .n1) (q .n2) A B s)
-      go Line = unfold cellsBy stageShaped in line-good (q .n1) A (factor-sound (h .placed .column))
+      go : (s : Shape) → Good (cellsBy q s) (stageShaped q A B s)
+      go Line = unfold cellsBy stageShaped in line-good (q .n1) A (factor-sound (h .placed .pair .column))
       go Joint =
           unfold cellsBy stageShaped in
-          joint-good (q .n1) (q .n2) A B (unfold factorAt in h .placed .match) (factor-sound (h .placed .column))
-          (factor-sound (h .placed .row))
+          joint-good (q .n1) (q .n2) A B (unfold factorAt in h .placed .pair .match) (factor-sound (h .placed .pair .column))
+          (factor-sound (h .placed .pair .row))
+      go Pass =
+          unfold cellsBy stageShaped in
+          pass-good (tiles-by (q .down) (q .many) (q .n1)) A
+          (rw (lines-long (q .down) (q .many) (q .n1)) (factor-sound (h .placed .pair .column)))
 
   recovers : Recovers (cells q) (signOf q c r) (weightOf q c r) (orderOf q c r)
   recovers = good-recovers (subst (Good (cells q)) weighing good)

@@ -6,31 +6,44 @@ use Prim.Native.Nat.{ℕ, _+_, _*_, _/_, _%_, _≤_, _<_}
 use native.Mathlib.Nat.{mul-le-mul, mul-le-mul-right}
 use native.Mathlib.Omega.{arith}
 use lib.Dec.{eqb}
-use lib.IntN.{ℤ, pos, _*ℤ_}
+use lib.IntN.{ℤ, _*ℤ_}
 use Rattle.whole.specs.Diff.{Within}
 use Rattle.whole.specs.Laws.{signs-times}
 use Rattle.whole.specs.Machine.{within-le, within-pos, within-*}
 use Rattle.whole.specs.Stated.{Sign, sum}
 use Rattle.whole.specs.Sum.{sum-within}
 use Rattle.rules.specs.declared.Rule.{Rule}
-use Rattle.rules.specs.Numbers.{mostOrder, mostCells, mostEntry, unit, unit², bound, at}
+use Rattle.rules.specs.Numbers.{mostCells, mostEntry, unit, unit², bound, at}
 use Rattle.rules.specs.Factors.{factorAt}
 use Rattle.rules.specs.Stages.{R, off, weighed}
-use Rattle.rules.specs.Shapes.{jointSign, jointWeight}
+use Rattle.rules.specs.Shapes.{jointSign, jointWeight, passSign, passWeight}
 use Rattle.rules.specs.Laws.Rectangles.{row-below, col-below}
+use Rattle.factor.specs.PassLines.{lines-many, lines-long, tiles-by}
 use Rattle.factor.specs.Rounding.{rounded-within}
 use Rattle.offender.specs.declared.weights.Shape.{Shape}
-use Rattle.offender.specs.declared.weights.Shape.the-variants.{Line, Joint}
+use Rattle.offender.specs.declared.weights.Shape.the-variants.{Line, Joint, Pass}
 use Rattle.offender.specs.declared.weights.Refused.{Refused}
 use Rattle.offender.specs.Search.{Passed}
-use Rattle.offender.specs.RefusedStages.{cellsBy, scaleBy, signBy, weightBy, cells, signOf, weightOf}
-use Rattle.offender.specs.RefusedStages.{HasWeights, Weighed, Given}
+use Rattle.offender.specs.RefusedStages.{cellsBy, scaleBy, signBy, weightBy, lines, cells, signOf, weightOf}
+use Rattle.offender.specs.RefusedStages.{Small, Placed, HasWeights, Weighed, Given}
 use Rattle.offender.specs.FactorMatrix.{sign-is, matrix-small}
 
-cells-by : (s : Shape) (n1 n2 : ℕ) → n1 ≤ mostOrder → n2 ≤ mostOrder → cellsBy s n1 n2 ≤ mostCells
+pub small : {q : Refused} {c r : List ℤ} → Placed q c r → Small q
+small p = (p .pair .most1, p .pair .most2, p .most)
+
+cells-by : (q : Refused) → Small q → (s : Shape) → cellsBy q s ≤ mostCells
 unfolding cellsBy
-cells-by Line n1 n2 a b = omega arith
-cells-by Joint n1 n2 a b = mul-le-mul a b
+cells-by q h Line = let a = h .0 in omega arith
+cells-by q h Joint = mul-le-mul (h .0) (h .1)
+cells-by q h Pass = mul-le-mul (h .2) (h .0)
+
+-- an element of a pass is in one of its lines
+module _ (q : Refused) (e : ℕ) (l : e < q .many * q .n1) where
+  pub line-below : lines q .line e < q .many
+  line-below = rw (lines-many (q .down) (q .many) (q .n1)) at (tiles-by (q .down) (q .many) (q .n1) .line-below e l)
+
+  pub spot-below : lines q .spot e < q .n1
+  spot-below = rw (lines-long (q .down) (q .many) (q .n1)) at (tiles-by (q .down) (q .many) (q .n1) .spot-below e l)
 
 -- a weight, a sum, and the sum rounded
 abbrev pub mostWeight : ℕ
@@ -42,59 +55,75 @@ mostSum = mostCells * (mostWeight * bound)
 abbrev pub mostRounded : ℕ
 mostRounded = mostSum + unit²
 
+either-small : (t : Bool) {a b : ℤ} → Within mostWeight a → Within mostWeight b → Within mostWeight (cond t a b)
+either-small true x y = x
+either-small false x y = y
+
 module _ {q : Refused} {c r : List ℤ} (h : Weighed q c r) where
   pub cells-most : cells q ≤ mostCells
-  cells-most = cells-by (q .shape) (q .n1) (q .n2) (h .placed .most1) (h .placed .most2)
+  cells-most = cells-by q (small (h .placed)) (q .shape)
 
   -- the factors of the stage
   pub first : HasWeights c (q .n1) (q .i)
-  first = record { most = h .placed .most1; read = h .placed .column; weighs = h .weighs }
+  first = record { most = h .placed .pair .most1; read = h .placed .pair .column; weighs = h .weighs }
 
   pub second : HasWeights r (q .n2) (q .j)
-  second = record { most = h .placed .most2; read = h .placed .row; weighs = λ e. h .weighs (h .placed .match ∙ e) }
+  second = let p = h .placed .pair in
+      record { most = p .most2; read = p .row; weighs = λ e. h .weighs (p .match ∙ e) }
 
   -- an element is in a row and a column of them
   pub in-line : q .shape ≡ Line → (e : ℕ) → e < cells q → e < q .n1
   unfolding cellsBy
   in-line s e l = rw s at l
 
-  pub in-row : q .shape ≡ Joint → (e : ℕ) → e < cells q → e / q .n2 < q .n1
+  pub in-joint : q .shape ≡ Joint → (e : ℕ) → e < cells q → e < q .n1 * q .n2
   unfolding cellsBy
-  in-row s e l = row-below (q .n1) (q .n2) e (rw s at l)
+  in-joint s e l = rw s at l
+
+  pub in-row : q .shape ≡ Joint → (e : ℕ) → e < cells q → e / q .n2 < q .n1
+  in-row s e l = row-below (q .n1) (q .n2) e (in-joint s e l)
 
   pub in-column : q .shape ≡ Joint → (e : ℕ) → e < cells q → e % q .n2 < q .n2
+  in-column s e l = col-below (q .n1) (q .n2) e (in-joint s e l)
+
+  pub in-pass : q .shape ≡ Pass → (e : ℕ) → e < cells q → e < q .many * q .n1
   unfolding cellsBy
-  in-column s e l = col-below (q .n1) (q .n2) e (rw s at l)
+  in-pass s e l = rw s at l
+
+  pub in-spot : q .shape ≡ Pass → (e : ℕ) → e < cells q → lines q .spot e < q .n1
+  in-spot s e l = spot-below q e (in-pass s e l)
 
   pub sign-one : (e : ℕ) → e < cells q → Sign (signOf q c r e)
   sign-one e l = go (q .shape) refl
     where
       go : (s : Shape) → q .shape ≡ s →
-          Sign (signBy (q .n1) (q .n2) (factorAt c (q .n1) (q .i)) (factorAt r (q .n2) (q .j)) s e)
+          Sign (signBy q (factorAt c (q .n1) (q .i)) (factorAt r (q .n2) (q .j)) s e)
       go Line s = unfold signBy in sign-is first refl e (in-line s e l)
       go Joint s =
           unfold signBy jointSign in
           signs-times (sign-is first refl (e / q .n2) (in-row s e l)) (sign-is second refl (e % q .n2) (in-column s e l))
+      go Pass s = unfold signBy passSign in sign-is first refl (lines q .spot e) (in-spot s e l)
 
   pub weight-small : (e k : ℕ) → e < cells q → k < cells q → Within mostWeight (weightOf q c r e k)
   weight-small e k l b = go (q .shape) refl
     where
       go : (s : Shape) → q .shape ≡ s →
-          Within mostWeight (weightBy (q .n1) (q .n2) (factorAt c (q .n1) (q .i)) (factorAt r (q .n2) (q .j)) s e k)
+          Within mostWeight (weightBy q (factorAt c (q .n1) (q .i)) (factorAt r (q .n2) (q .j)) s e k)
       go Line s = unfold weightBy in within-le (omega arith) (matrix-small first e k (in-line s e l) (in-line s k b))
       go Joint s =
           unfold weightBy jointWeight in
           within-*
           (matrix-small first (e / q .n2) (k / q .n2) (in-row s e l) (in-row s k b))
           (matrix-small second (e % q .n2) (k % q .n2) (in-column s e l) (in-column s k b))
+      go Pass s =
+          unfold weightBy passWeight in
+          either-small (eqb (lines q .line e) (lines q .line k))
+          (within-le (omega arith) (matrix-small first (lines q .spot e) (lines q .spot k) (in-spot s e l) (in-spot s k b)))
+          (within-le (omega arith) (within-pos 0))
 
   pub off-small : (e k : ℕ) → e < cells q → k < cells q → Within mostWeight (off (weightOf q c r) e k)
   unfolding off
-  off-small e k l b = go (eqb e k)
-    where
-      go : (t : Bool) → Within mostWeight (cond t (pos 0) (weightOf q c r e k))
-      go true = within-le (omega arith) (within-pos 0)
-      go false = weight-small e k l b
+  off-small e k l b = either-small (eqb e k) (within-le (omega arith) (within-pos 0)) (weight-small e k l b)
 
 module _ {q : Refused} {c r x : List ℤ} (g : Given q c r x) (e : ℕ) (l : e < cells q) where
   abbrev term : ℕ → ℤ
@@ -119,6 +148,7 @@ module _ {q : Refused} {c r x : List ℤ} (g : Given q c r x) (e : ℕ) (l : e <
       go : (s : Shape) → Within mostRounded (R rule (scaleBy s) (weighed (cells q) (off (weightOf q c r) e) x))
       go Line = unfold scaleBy in within-le (omega arith) (rounded-within rule unit (omega arith) (omega arith) sum-small)
       go Joint = unfold scaleBy in within-le (omega arith) (rounded-within rule unit² (omega arith) (omega arith) sum-small)
+      go Pass = unfold scaleBy in within-le (omega arith) (rounded-within rule unit (omega arith) (omega arith) sum-small)
 
 -- what a search goes on with is in bound
 pub given-on : {q : Refused} {c r v x : List ℤ} {find : List ℕ → List ℤ → ℕ} {es : List ℕ} → Given q c r v → Passed find es v x →

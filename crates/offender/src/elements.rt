@@ -66,6 +66,7 @@ fn rounded_sum(rule: Rule, q: Refused, col: &[i32], row: &[i32], e: usize, x: &[
     match shape {
         Shape::Line => return round_line(down, even, s),
         Shape::Joint => return round_joint(down, even, s),
+        Shape::Pass => return round_line(down, even, s),
     }
 }
 

@@ -11,6 +11,7 @@ use crate::elements::element_at;
 use crate::weights::Refused;
 use crate::weights::cells_of;
 use crate::weights::turn_at;
+use crate::weights::turns_of;
 use factor::bounds::keep;
 use factor::rounding::is_within;
 use rules::Block;
@@ -91,8 +92,8 @@ pub fn first_undone(rule: Rule, q: Refused, col: &[i32], row: &[i32], x: &mut [i
     ensures { λ r. ⌜ r ≡ searchOf rule q (now (col .entry)) (now (row .entry))
         (orderOf q (now (col .entry)) (now (row .entry))) (now (x .entry)) ⌝ }
 {
-    let n = cells_of(q);
-    for t in 0..n + 4 {
+    let n = turns_of(q);
+    for t in 0..n {
         let s = recover_turn(rule, q, col, row, t, x);
         if !s.on {
             return s.element;

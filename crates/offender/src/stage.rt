@@ -4,10 +4,11 @@ ghost use Prim.Native.Nat.{_*_, _≤_};
 ghost use lib.ListN.{length};
 ghost use Rattle.rules.specs.Numbers.{mostOrder};
 ghost use Rattle.rules.specs.Factors.{factorAt};
-ghost use Rattle.rules.specs.Shapes.{lineStage, jointStage};
+ghost use Rattle.rules.specs.Shapes.{lineStage, jointStage, passStage};
 ghost use Rattle.laws.specs.Accepted.{FactorRead};
 ghost use Rattle.factor.specs.SumBounds.{Bounded};
 ghost use Rattle.factor.specs.LayoutInSheet.{Paired};
+ghost use Rattle.factor.specs.PassLines.{linesBy};
 ghost use Rattle.factor.specs.Tasks.{limitOf, nameAfter, takenBy};
 ghost use Rattle.offender.specs.RefusedStages.{Placed, cells, stageOf};
 use crate::search::first_applied;
@@ -52,6 +53,8 @@ pub fn line_element(run: Run, sheet: &[i32], n: usize, i: usize, x: &mut [i32]) 
         n2: n,
         i,
         j: i,
+        down: false,
+        many: 1,
     };
     element(run, q, sheet, sheet, x)
 }
@@ -80,6 +83,36 @@ pub fn joint_element(
         n2,
         i,
         j,
+        down: false,
+        many: 1,
     };
     element(run, q, col, row, x)
+}
+
+// The same of a pass: a factor of n numbers along every one of `many` columns, or rows.
+pub fn pass_element(
+    columns: bool,
+    run: Run,
+    sheet: &[i32],
+    n: usize,
+    many: usize,
+    i: usize,
+    x: &mut [i32],
+) -> usize
+    requires { ⌜ (1 ≤ n) × (n ≤ mostOrder) × (1 ≤ many) × (many ≤ mostOrder) × FactorRead (now sheet) n i
+        × Bounded (limitOf (run .task)) (now x) × (many * n ≤ length (now x)) ⌝ }
+    ensures { λ r. ⌜ r ≡ nameAfter (run .task) (many * n)
+        (passStage (linesBy columns many n) (factorAt (now (sheet .entry)) n i))
+        (takenBy run (many * n) (passStage (linesBy columns many n) (factorAt (now (sheet .entry)) n i)) (now (x .entry))) ⌝ }
+{
+    let q = Refused {
+        shape: Shape::Pass,
+        n1: n,
+        n2: n,
+        i,
+        j: i,
+        down: columns,
+        many,
+    };
+    element(run, q, sheet, sheet, x)
 }

@@ -1,41 +1,44 @@
 // The numbers of a stage, each as its definition says it: the matrix of a factor, and by the stage's shape how many elements it
 // has, their signs, their weights and their turns. A permutation has none of these, and does not come here.
-ghost use mathlib.Core.Bool.{true};
+ghost use mathlib.Core.Bool.{true, cond};
 ghost use mathlib.Core.Logic.{_≢_};
 ghost use mathlib.Core.Path.{_≡_};
-ghost use Prim.Native.Nat.{_≤_, _<_};
+ghost use Prim.Native.Nat.{_*_, _≤_, _<_};
+ghost use lib.Dec.{eqb};
 ghost use lib.IntN.{_*ℤ_};
 ghost use mir.Syntax.{w32, w64};
 ghost use mir.Val.{SFits};
 ghost use Rattle.rules.specs.Numbers.{mostOrder, count};
 ghost use Rattle.rules.specs.Sheets.{kindOf};
 ghost use Rattle.rules.specs.Factors.{hasEntry, entriesBefore, factorAt, matrix};
-ghost use Rattle.rules.specs.Shapes.{inRow};
+ghost use Rattle.rules.specs.Shapes.{turn, inRow, jointShared, passWeight, passTurn};
 ghost use Rattle.laws.specs.Accepted.{FactorRead};
-ghost use Rattle.offender.specs.RefusedStages.{HasWeights, Weighed, cells, signOf, weightOf, sharedOf, turnOf};
+ghost use Rattle.offender.specs.RefusedStages.{Small, Placed, HasWeights, Weighed, lines, cells, turns};
+ghost use Rattle.offender.specs.RefusedStages.{signOf, weightOf, turnOf};
 use factor::before_lower;
 use factor::before_upper;
 use factor::bounds::wide;
 use factor::layout_at;
 use rules::Kind;
 use rules::Scale;
-use sheetread::factors::count_at;
-use sheetread::factors::kind_at;
 
-// What a stage is made of: a factor of a line, or a pair of factors of a rectangle.
+// What a stage is made of: a factor of a line, a pair of factors of a rectangle, or a factor along every line of a rectangle.
 pub enum Shape {
     Line,
     Joint,
+    Pass,
 }
 
-// The stage that is refused: its shape, and the orders and the places of its factors in the two sheets. A line has one sheet and
-// one factor, which stands twice here.
+// The stage that is refused: its shape, and the orders and the places of its factors in the two sheets. A line and a pass have
+// one sheet and one factor, which stands twice here. A pass has many lines, the columns or the rows; any other shape has one.
 pub struct Refused {
     pub shape: Shape,
     pub n1: usize,
     pub n2: usize,
     pub i: usize,
     pub j: usize,
+    pub down: bool,
+    pub many: usize,
 }
 
 // Whether a factor has an entry in row m, column k, off the diagonal.
@@ -97,17 +100,6 @@ fn sign_of(sheet: &[i32], n: usize, i: usize, m: usize) -> i32
     sheet[signs + m]
 }
 
-// 1 in the single row of the factor at i, 0 in the others.
-fn in_row(sheet: &[i32], n: usize, i: usize, m: usize) -> usize
-    requires { ⌜ FactorRead (now sheet) n i × (kindOf (count (now sheet) i) ≡ Kind.Single) ⌝ }
-    ensures { λ r. ⌜ r ≡ inRow (factorAt (now (sheet .entry)) n i) m ⌝ }
-{
-    if m == count_at(sheet, i + 1) {
-        return 1;
-    }
-    0
-}
-
 fn product(a: i64, b: i64) -> i64
     requires { ⌜ SFits w64 (a *ℤ b) ⌝ }
     ensures { λ r. ⌜ r ≡ a *ℤ b ⌝ }
@@ -124,14 +116,50 @@ fn both_signs(d: i32, e: i32) -> i32
 
 // How many elements the block has.
 pub fn cells_of(q: Refused) -> usize
-    requires { ⌜ (q .n1 ≤ mostOrder) × (q .n2 ≤ mostOrder) ⌝ }
+    requires { ⌜ Small q ⌝ }
     ensures { λ r. ⌜ r ≡ cells q ⌝ }
 {
     let shape = q.shape;
     match shape {
         Shape::Line => return q.n1,
         Shape::Joint => return q.n1 * q.n2,
+        Shape::Pass => return q.many * q.n1,
     }
+}
+
+// How many turns its recovery has.
+pub fn turns_of(q: Refused) -> usize
+    requires { ⌜ Small q ⌝ }
+    ensures { λ r. ⌜ r ≡ turns q ⌝ }
+{
+    let shape = q.shape;
+    match shape {
+        Shape::Line => return q.n1 + 4,
+        Shape::Joint => return q.n1 * q.n2 + 4,
+        Shape::Pass => return q.many * (q.n1 + 4),
+    }
+}
+
+// The line of a pass in which element e is.
+fn line_of(q: Refused, e: usize) -> usize
+    requires { ⌜ (1 ≤ q .n1) × (1 ≤ q .many) ⌝ }
+    ensures { λ r. ⌜ r ≡ lines q .line e ⌝ }
+{
+    if q.down {
+        return e % q.many;
+    }
+    e / q.n1
+}
+
+// Its place in that line.
+fn spot_of(q: Refused, e: usize) -> usize
+    requires { ⌜ (1 ≤ q .n1) × (1 ≤ q .many) ⌝ }
+    ensures { λ r. ⌜ r ≡ lines q .spot e ⌝ }
+{
+    if q.down {
+        return e / q.many;
+    }
+    e % q.n1
 }
 
 // The sign of element e.
@@ -146,10 +174,23 @@ pub fn sign_at(q: Refused, col: &[i32], row: &[i32], e: usize) -> i32
         Shape::Joint => {
             return both_signs(sign_of(col, q.n1, q.i, e / n), sign_of(row, n, q.j, e % n));
         }
+        Shape::Pass => return sign_of(col, q.n1, q.i, spot_of(q, e)),
     }
 }
 
-// The weight of element k in the sum of element e.
+// The weight of element k in the sum of element e of a pass: of its own line.
+fn pass_weight(q: Refused, sheet: &[i32], e: usize, k: usize) -> i64
+    requires { ⌜ HasWeights (now sheet) (q .n1) (q .i) × (1 ≤ q .n1) × (1 ≤ q .many) × (e < q .many * q .n1)
+        × (k < q .many * q .n1) ⌝ }
+    ensures { λ r. ⌜ r ≡ passWeight (lines q) (factorAt (now (sheet .entry)) (q .n1) (q .i)) e k ⌝ }
+{
+    if line_of(q, e) != line_of(q, k) {
+        return 0;
+    }
+    matrix_at(sheet, q.n1, q.i, spot_of(q, e), spot_of(q, k))
+}
+
+// The same of any shape.
 pub fn weight_at(q: Refused, col: &[i32], row: &[i32], e: usize, k: usize) -> i64
     requires { ⌜ Weighed q (now col) (now row) × (e < cells q) × (k < cells q) ⌝ }
     ensures { λ r. ⌜ r ≡ weightOf q (now (col .entry)) (now (row .entry)) e k ⌝ }
@@ -164,22 +205,68 @@ pub fn weight_at(q: Refused, col: &[i32], row: &[i32], e: usize, k: usize) -> i6
                 matrix_at(row, n, q.j, e % n, k % n),
             );
         }
+        Shape::Pass => return pass_weight(q, col, e, k),
     }
 }
 
-// What element e shares with the single rows.
-fn shared_at(q: Refused, col: &[i32], row: &[i32], e: usize) -> usize
-    requires { ⌜ Weighed q (now col) (now row) × (e < cells q) × (kindOf (count (now col) (q .i)) ≡ Kind.Single) ⌝ }
-    ensures { λ r. ⌜ r ≡ sharedOf q (now (col .entry)) (now (row .entry)) e ⌝ }
+// 1 in the single row, 0 in the others.
+fn in_row(row: usize, m: usize) -> usize
+    ensures { λ r. ⌜ (r ≡ cond (eqb m row) 1 0) × (r ≤ 1) ⌝ }
 {
-    let shape = q.shape;
-    let n = q.n2;
-    match shape {
-        Shape::Line => return in_row(col, q.n1, q.i, e),
-        Shape::Joint => {
-            return in_row(col, q.n1, q.i, e / n) + 2 * in_row(row, n, q.j, e % n);
-        }
+    if m == row {
+        return 1;
     }
+    0
+}
+
+// The turn of number m of n, by the kind and what the number shares with the single rows.
+fn turn_of(kind: Kind, n: usize, shared: usize, m: usize) -> usize
+    requires { ⌜ m < n ⌝ }
+    ensures { λ r. ⌜ r ≡ turn kind n shared m ⌝ }
+{
+    match kind {
+        Kind::Permutation => return m,
+        Kind::Lower => return m,
+        Kind::Upper => return n - 1 - m,
+        Kind::Single => return shared,
+    }
+}
+
+// In a line.
+fn line_turn(sheet: &[i32], n: usize, i: usize, m: usize) -> usize
+    requires { ⌜ FactorRead (now sheet) n i × (m < n) ⌝ }
+    ensures { λ r. ⌜ r ≡ turn (kindOf (count (now (sheet .entry)) i)) n (inRow (factorAt (now (sheet .entry)) n i) m) m ⌝ }
+{
+    let f = layout_at(sheet, n, i);
+    let kind = f.kind;
+    turn_of(kind, n, in_row(f.row, m), m)
+}
+
+// In a rectangle.
+fn joint_turn(q: Refused, col: &[i32], row: &[i32], e: usize) -> usize
+    requires { ⌜ Placed q (now col) (now row) × (e < q .n1 * q .n2) ⌝ }
+    ensures { λ r. ⌜ r ≡ turn (kindOf (count (now (col .entry)) (q .i))) (q .n1 * q .n2)
+        (jointShared (q .n1) (q .n2) (factorAt (now (col .entry)) (q .n1) (q .i)) (factorAt (now (row .entry)) (q .n2) (q .j)) e)
+        e ⌝ }
+{
+    let n = q.n2;
+    let f = layout_at(col, q.n1, q.i);
+    let g = layout_at(row, n, q.j);
+    let kind = f.kind;
+    turn_of(
+        kind,
+        q.n1 * n,
+        in_row(f.row, e / n) + 2 * in_row(g.row, e % n),
+        e,
+    )
+}
+
+// In a pass: line after line.
+fn pass_turn(q: Refused, sheet: &[i32], e: usize) -> usize
+    requires { ⌜ Small q × FactorRead (now sheet) (q .n1) (q .i) × (1 ≤ q .n1) × (1 ≤ q .many) × (e < q .many * q .n1) ⌝ }
+    ensures { λ r. ⌜ r ≡ passTurn (lines q) (factorAt (now (sheet .entry)) (q .n1) (q .i)) e ⌝ }
+{
+    line_of(q, e) * (q.n1 + 4) + line_turn(sheet, q.n1, q.i, spot_of(q, e))
 }
 
 // The turn in which element e is recovered.
@@ -187,12 +274,10 @@ pub fn turn_at(q: Refused, col: &[i32], row: &[i32], e: usize) -> usize
     requires { ⌜ Weighed q (now col) (now row) × (e < cells q) ⌝ }
     ensures { λ r. ⌜ r ≡ turnOf q (now (col .entry)) (now (row .entry)) e ⌝ }
 {
-    let i = q.i;
-    let kind = kind_at(col, i);
-    match kind {
-        Kind::Permutation => return e,
-        Kind::Lower => return e,
-        Kind::Upper => return cells_of(q) - 1 - e,
-        Kind::Single => return shared_at(q, col, row, e),
+    let shape = q.shape;
+    match shape {
+        Shape::Line => return line_turn(col, q.n1, q.i, e),
+        Shape::Joint => return joint_turn(q, col, row, e),
+        Shape::Pass => return pass_turn(q, col, e),
     }
 }

@@ -3,7 +3,7 @@ ghost use mathlib.Core.Path.{_≡_};
 ghost use lib.ListN.{length};
 ghost use Rattle.rules.specs.Numbers.{mostCount};
 ghost use Rattle.rules.specs.Sheets.{reading};
-ghost use Rattle.rules.specs.Answers.{readAnswer, checked, pairChecked};
+ghost use Rattle.rules.specs.Answers.{_or-else_, readAnswer, checked, pairChecked};
 ghost use Rattle.laws.specs.Accepted.{Accepted};
 ghost use Rattle.sheetread.specs.Starts.{Starts};
 use crate::matches::check_match;
@@ -56,7 +56,25 @@ pub fn check_starts(sheet: &[i32], starts: &mut [u16; Sheet::FACTORS]) -> Answer
     answer_of(read_starts(sheet, starts), 0)
 }
 
-// Checks two sheets: 1 to 9 for the column sheet, then for the row sheet, then 12. The law is `pair-read`.
+// Checks two sheets: 1 to 9 for the column sheet, then for the row sheet. The law is `two-read`.
+pub fn check_two_starts(
+    col: &[i32],
+    row: &[i32],
+    columns: &mut [u16; Sheet::FACTORS],
+    rows: &mut [u16; Sheet::FACTORS],
+) -> Answer
+    requires { ⌜ (length (now columns) ≡ mostCount) × (length (now rows) ≡ mostCount) ⌝ }
+    ensures { λ r. ⌜ (r ≡ readAnswer 0 (reading (now (col .entry))) or-else readAnswer 1 (reading (now (row .entry))))
+        × (r .number ≡ 0 → Starts (now (col .entry)) (now (columns .exit)) × Starts (now (row .entry)) (now (rows .exit))) ⌝ }
+{
+    let c = read_starts(col, columns);
+    if c.number != 0 {
+        return answer_of(c, 0);
+    }
+    answer_of(read_starts(row, rows), 1)
+}
+
+// The same, then 12. The law is `pair-read`.
 pub fn check_pair_starts(
     col: &[i32],
     row: &[i32],
@@ -67,13 +85,9 @@ pub fn check_pair_starts(
     ensures { λ r. ⌜ (r ≡ pairChecked (now (col .entry)) (now (row .entry)))
         × (r .number ≡ 0 → Starts (now (col .entry)) (now (columns .exit)) × Starts (now (row .entry)) (now (rows .exit))) ⌝ }
 {
-    let c = read_starts(col, columns);
-    if c.number != 0 {
-        return answer_of(c, 0);
-    }
-    let r = read_starts(row, rows);
-    if r.number != 0 {
-        return answer_of(r, 1);
+    let a = check_two_starts(col, row, columns, rows);
+    if a.number != 0 {
+        return a;
     }
     check_match(col, row, columns, rows)
 }

@@ -11,7 +11,7 @@ use Rattle.whole.specs.Stated.{sum}
 use Rattle.rules.specs.Numbers.{at}
 use Rattle.rules.specs.Stages.{off, weighed}
 use Rattle.offender.specs.RefusedStages.{cells, weightOf}
-use Rattle.offender.specs.RefusedBounds.{term-small, partial-small}
+use Rattle.offender.specs.RefusedBounds.{small, term-small, partial-small}
 use Rattle.offender.proofs.elements.off_sum.Statement.{statement}
 use Rattle.offender.proofs.elements.off_sum.Tie as tie
 
@@ -27,7 +27,7 @@ abbrev term : tie.Start Inv-loop μ-loop → ℕ → ℤ
 term s k = off (weightOf (s .args .q) (s .args .col .now) (s .args .row .now)) (s .args .e) k *ℤ at (s .args .x .now) k
 
 cells-of-requires : tie.Need-cells-of-requires Inv-loop μ-loop
-cells-of-requires c κs = let p = c .pre .0 .stage .placed in (p .most1, p .most2)
+cells-of-requires c κs = small (c .pre .0 .stage .placed)
 
 loop-holds : tie.Need-loop-holds Inv-loop μ-loop
 unfolding sum

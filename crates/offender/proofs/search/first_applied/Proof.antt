@@ -14,6 +14,7 @@ use Rattle.rules.specs.Laws.Lists.{fill-at}
 use Rattle.factor.specs.SumBounds.{test-no, test-yes}
 use Rattle.offender.specs.Search.{Clear, read-first, read-none}
 use Rattle.offender.specs.RefusedStages.{cells, appliedOf}
+use Rattle.offender.specs.RefusedBounds.{small}
 use Rattle.offender.proofs.search.first_applied.Statement.{statement}
 use Rattle.offender.proofs.search.first_applied.Tie as tie
 
@@ -32,7 +33,7 @@ there : (s : tie.Start Inv-loop μ-loop) (k : ℕ) → k < cells (s .args .q) �
 there s k l = fill-at (cells (s .args .q)) (F s) (s .args .x .now) k l (s .pre .room)
 
 cells-of-requires : tie.Need-cells-of-requires Inv-loop μ-loop
-cells-of-requires c κs = let p = c .pre .stage .placed in (p .most1, p .most2)
+cells-of-requires c κs = small (c .pre .stage .placed)
 
 loop-holds : tie.Need-loop-holds Inv-loop μ-loop
 loop-holds c = (c .cells-of .ensures, below-none _)

@@ -2,36 +2,33 @@
 use borrow.Author.Needs.{needs}
 use borrow.Author.Tests.{not-true, not-false}
 use mathlib.Core.Path.{_≡_, sym}
-use Prim.Native.Nat.{ℕ, _+_, _-_, _≤_, _<_}
+use Prim.Native.Nat.{ℕ, _-_, _≤_, _<_}
 use native.Mathlib.Omega.{arith}
 use Rattle.rules.specs.Shapes.{byTurn}
 use Rattle.offender.specs.Search.{searched, turns-grow, Passed, passed-none, found-whole, passed-whole}
 use Rattle.offender.specs.Search.{step-on, step-stops}
-use Rattle.offender.specs.RefusedStages.{cells, turnOf, searchOf}
-use Rattle.offender.specs.RefusedBounds.{cells-most, given-on}
+use Rattle.offender.specs.RefusedStages.{cells, turns, turnOf, searchOf}
+use Rattle.offender.specs.RefusedBounds.{small, given-on}
 use Rattle.offender.proofs.search.first_undone.Statement.{statement}
 use Rattle.offender.proofs.search.first_undone.Tie as tie
 
 abbrev Inv-loop : tie.InvT-loop
-Inv-loop rule q col row x₀ n t₀ t-end x t =
-    (t ≤ t-end) × (t-end ≡ cells q + 4) × Passed (searchOf rule q col row) (byTurn (cells q) t (turnOf q col row)) x₀ x
+Inv-loop rule q col row x₀ n t₀ x t =
+    (t ≤ n) × (n ≡ turns q) × Passed (searchOf rule q col row) (byTurn (cells q) t (turnOf q col row)) x₀ x
 
 abbrev μ-loop : tie.MeasureT-loop
-μ-loop rule q col row x₀ n t₀ t-end x t = t-end - t
+μ-loop rule q col row x₀ n t₀ x t = n - t
 
 -- the turn of element k
-abbrev turns : tie.Start Inv-loop μ-loop → ℕ → ℕ
-turns s k = turnOf (s .args .q) (s .args .col .now) (s .args .row .now) k
+abbrev ranks : tie.Start Inv-loop μ-loop → ℕ → ℕ
+ranks s k = turnOf (s .args .q) (s .args .col .now) (s .args .row .now) k
 
-cells-of-requires : tie.Need-cells-of-requires Inv-loop μ-loop
-cells-of-requires c κs = let p = c .pre .stage .placed in (p .most1, p .most2)
-
-add-t-end : tie.Need-add-t-end Inv-loop μ-loop
-add-t-end c = omega (arith, c .cells-of .ensures, cells-most (c .before .pre .stage))
+turns-of-requires : tie.Need-turns-of-requires Inv-loop μ-loop
+turns-of-requires c κs = small (c .pre .stage .placed)
 
 loop-holds : tie.Need-loop-holds Inv-loop μ-loop
 unfolding byTurn
-loop-holds c = (omega arith, omega (arith, c .cells-of .ensures), passed-none (c .before .pre .small))
+loop-holds c = (omega arith, c .turns-of .ensures, passed-none (c .before .pre .small))
 
 recover-turn-requires : tie.Need-recover-turn-requires Inv-loop μ-loop
 recover-turn-requires c κs =
@@ -46,10 +43,10 @@ returns c =
     let i = r .before .before in
     let l = i .before in
     let s = l .before .before in
-    let b : l .loop .t < cells (s .args .q) + 4 = let h = i .loop-test .taken in omega (arith, l .loop .inv .1) in
+    let b : l .loop .t < turns (s .args .q) = let h = i .loop-test .taken in omega (arith, l .loop .inv .1) in
     sym
     (found-whole
-    (step-stops (turns-grow (cells (s .args .q)) (turns s)) (l .loop .t) (cells (s .args .q) + 4) b (l .loop .inv .2)
+    (step-stops (turns-grow (cells (s .args .q)) (ranks s)) (l .loop .t) (turns (s .args .q)) b (l .loop .inv .2)
     (r .recover-turn .ensures .stops (not-true _ (c .if1 .taken)))))
 
 add-t : tie.Need-add-t Inv-loop μ-loop
@@ -65,7 +62,7 @@ loop-again c =
     let s = l .before .before in (
       omega arith,
       l .loop .inv .1,
-      step-on (turns-grow (cells (s .args .q)) (turns s)) (l .loop .t) (l .loop .inv .2)
+      step-on (turns-grow (cells (s .args .q)) (ranks s)) (l .loop .t) (l .loop .inv .2)
           (r .recover-turn .ensures .goes (not-false _ (c .if1 .left))),
     )
 
@@ -77,11 +74,11 @@ unfolding searched
 returns-2 c =
     let l = c .before in
     let s = l .before .before in
-    let e : l .loop .t ≡ cells (s .args .q) + 4 = omega (arith, l .loop .inv .1) in
+    let e : l .loop .t ≡ turns (s .args .q) = omega (arith, l .loop .inv .1) in
     sym (passed-whole (rw e at (l .loop .inv .2)))
 
 pub first-undone-spec : {M : Type 1} → statement M
 first-undone-spec =
     tie.close
-    (tie.spec Inv-loop μ-loop cells-of-requires add-t-end loop-holds recover-turn-requires same-length returns add-t loop-less
+    (tie.spec Inv-loop μ-loop turns-of-requires loop-holds recover-turn-requires same-length returns add-t loop-less
     loop-again same-length-2 returns-2)

@@ -9,7 +9,7 @@ use lib.Dec.{eqb}
 use Rattle.rules.specs.Stages.{those}
 use Rattle.offender.specs.Search.{Passed, passed-none, went-on, went-to, those-grow, step-on, step-stops}
 use Rattle.offender.specs.RefusedStages.{cells, turnOf, searchOf}
-use Rattle.offender.specs.RefusedBounds.{given-on}
+use Rattle.offender.specs.RefusedBounds.{small, given-on}
 use Rattle.offender.proofs.search.recover_turn.Statement.{statement}
 use Rattle.offender.proofs.search.recover_turn.Tie as tie
 
@@ -25,7 +25,7 @@ abbrev test : tie.Start Inv-loop μ-loop → ℕ → Bool
 test s k = eqb (turnOf (s .args .q) (s .args .col .now) (s .args .row .now) k) (s .args .t)
 
 cells-of-requires : tie.Need-cells-of-requires Inv-loop μ-loop
-cells-of-requires c κs = let p = c .pre .stage .placed in (p .most1, p .most2)
+cells-of-requires c κs = small (c .pre .stage .placed)
 
 loop-holds : tie.Need-loop-holds Inv-loop μ-loop
 unfolding those

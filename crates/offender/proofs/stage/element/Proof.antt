@@ -20,7 +20,7 @@ returns c =
     let s = a .before in
     sym
     (none-moved (s .args .run .task) (s .args .run .rule) (s .args .q) _ _
-    (kind-yes (s .pre .0 .column) (a .layout-at .ensures) (c .before .is-move .ensures) (c .if1 .taken)) (s .pre .1))
+    (kind-yes (s .pre .0 .pair .column) (a .layout-at .ensures) (c .before .is-move .ensures) (c .if1 .taken)) (s .pre .1))
 
 -- the stage has weights
 weighs : (c : tie.Else1) →
@@ -30,7 +30,7 @@ weighs c =
     let s = a .before in
     record {
       placed = s .pre .0;
-      weighs = kind-no (s .pre .0 .column) (a .layout-at .ensures) (c .before .is-move .ensures) (c .if1 .left);
+      weighs = kind-no (s .pre .0 .pair .column) (a .layout-at .ensures) (c .before .is-move .ensures) (c .if1 .left);
     }
 
 enum-told : tie.Need-enum-told

@@ -1,12 +1,14 @@
 -- A pair of factors.
 use borrow.Author.Needs.{needs}
+use native.Mathlib.Omega.{arith}
 use Rattle.offender.specs.RefusedStages.{cellsBy, stageShaped}
 use Rattle.offender.proofs.stage.joint_element.Statement.{statement}
 use Rattle.offender.proofs.stage.joint_element.Tie as tie
 
 element-requires : tie.Need-element-requires
 unfolding cellsBy
-element-requires c κs = c .before .pre
+element-requires c κs =
+    let p = c .before .pre in (record { pair = p .0; some = omega arith; most = omega arith }, p .1, p .2)
 
 same-length : tie.Need-same-length
 same-length c = search needs

@@ -1,7 +1,8 @@
 -- A line's factor, with itself for a partner.
 use borrow.Author.Needs.{needs}
-use mathlib.Core.Path.{refl}
+use native.Mathlib.Omega.{arith}
 use Rattle.offender.specs.RefusedStages.{cellsBy, stageShaped}
+use Rattle.offender.specs.NamedElements.{alone}
 use Rattle.offender.proofs.stage.line_element.Statement.{statement}
 use Rattle.offender.proofs.stage.line_element.Tie as tie
 
@@ -9,7 +10,7 @@ element-requires : tie.Need-element-requires
 unfolding cellsBy
 element-requires c κs =
     let p = c .before .pre in (
-      record { some1 = p .0; most1 = p .1; column = p .2; some2 = p .0; most2 = p .1; row = p .2; match = refl },
+      record { pair = alone (p .0) (p .1) (p .2); some = omega arith; most = omega arith },
       p .3,
       p .4,
     )

@@ -5,9 +5,9 @@ use lib.IntN.{_*ℤ_}
 use mir.Syntax.{w32}
 use mir.Val.{toZ, ofZ}
 use Rattle.whole.specs.Machine.{fits, back, sign-within}
-use Rattle.rules.specs.Shapes.{jointSign}
+use Rattle.rules.specs.Shapes.{jointSign, passSign}
 use Rattle.offender.specs.RefusedStages.{signBy, signOf}
-use Rattle.offender.specs.RefusedBounds.{first, second, in-line, in-row, in-column, sign-one}
+use Rattle.offender.specs.RefusedBounds.{first, second, in-line, in-row, in-column, in-spot, sign-one}
 use Rattle.offender.proofs.weights.sign_at.Statement.{statement}
 use Rattle.offender.proofs.weights.sign_at.Tie as tie
 
@@ -60,8 +60,28 @@ both-signs-requires c κs =
 returns-2 : tie.Need-returns-2
 returns-2 c = back w32 _ (c .both-signs .ok) ∙ c .both-signs .ensures ∙ both (c .before)
 
+enum-told-3 : tie.Need-enum-told-3
+enum-told-3 c = search needs
+
+spot-of-requires : tie.Need-spot-of-requires
+spot-of-requires c κs = let p = c .before .before .pre .0 .placed in (p .pair .some1, p .some)
+
+sign-of-requires-4 : tie.Need-sign-of-requires-4
+sign-of-requires-4 c κs =
+    let t = c .before in
+    let s = t .before .before in
+    let l = in-spot (s .pre .0) (t .enum-told3 .given .1) (s .args .e) (s .pre .1) in
+    (first (s .pre .0), rw (c .spot-of .ensures) l)
+
+returns-3 : tie.Need-returns-3
+unfolding signBy passSign
+returns-3 c =
+    let p = c .before in
+    rw (p .before .enum-told3 .given .1)
+    (back w32 _ (c .sign-of4 .ok) ∙ (rw (p .spot-of .ensures) at (c .sign-of4 .ensures)))
+
 pub sign-at-spec : {M : Type 1} → statement M
 sign-at-spec =
     tie.close
     (tie.spec enum-told sign-of-requires returns enum-told-2 div-sign-of sign-of-requires-2 rem-sign-of sign-of-requires-3
-    both-signs-requires returns-2)
+    both-signs-requires returns-2 enum-told-3 spot-of-requires sign-of-requires-4 returns-3)

@@ -7,7 +7,7 @@ use mir.Val.{toZ, ofZ}
 use Rattle.whole.specs.Machine.{fits, back}
 use Rattle.rules.specs.Shapes.{jointWeight}
 use Rattle.offender.specs.RefusedStages.{weightBy, weightOf}
-use Rattle.offender.specs.RefusedBounds.{first, second, in-line, in-row, in-column, weight-small}
+use Rattle.offender.specs.RefusedBounds.{first, second, in-line, in-row, in-column, in-pass, weight-small}
 use Rattle.offender.proofs.weights.weight_at.Statement.{statement}
 use Rattle.offender.proofs.weights.weight_at.Tie as tie
 
@@ -71,8 +71,27 @@ product-requires c κs =
 returns-2 : tie.Need-returns-2
 returns-2 c = back w64 _ (c .product .ok) ∙ c .product .ensures ∙ both (c .before)
 
+enum-told-3 : tie.Need-enum-told-3
+enum-told-3 c = search needs
+
+pass-weight-requires : tie.Need-pass-weight-requires
+pass-weight-requires c κs =
+    let s = c .before .before in
+    let t = c .enum-told3 .given .1 in
+    let p = s .pre .0 .placed in (
+      first (s .pre .0),
+      p .pair .some1,
+      p .some,
+      in-pass (s .pre .0) t (s .args .e) (s .pre .1),
+      in-pass (s .pre .0) t (s .args .k) (s .pre .2),
+    )
+
+returns-3 : tie.Need-returns-3
+unfolding weightBy
+returns-3 c = rw (c .before .enum-told3 .given .1) (back w64 _ (c .pass-weight .ok) ∙ c .pass-weight .ensures)
+
 pub weight-at-spec : {M : Type 1} → statement M
 weight-at-spec =
     tie.close
     (tie.spec enum-told matrix-at-requires returns enum-told-2 div-matrix-at div-matrix-at-2 matrix-at-requires-2 rem-matrix-at
-    rem-matrix-at-2 matrix-at-requires-3 product-requires returns-2)
+    rem-matrix-at-2 matrix-at-requires-3 product-requires returns-2 enum-told-3 pass-weight-requires returns-3)
