@@ -1,0 +1,5 @@
+pub mod Lanes
+pub mod LaneSteps
+pub mod LaneLaws
+pub mod RowLaws
+pub mod StageLaws
