@@ -23,9 +23,10 @@ import generate
 import model
 from generate import chance, nearest_if_wrong, numbers_of
 
-# A: column sheet or recipe bytes; B: row sheet; X: input block; Y: lent output.
-# A call that takes no rule has 0.
-Case = namedtuple("Case", "rule a b x y answer after")
+# A: column sheet or recipe bytes; B: row sheet, or of a pass alone the other
+# order; X: input block; Y: lent output. A call that takes no rule has 0. A cut of
+# two passes says its own call, since its parts are calls of three kinds.
+Case = namedtuple("Case", "rule a b x y answer after call", defaults=[None])
 
 # How often a run's sheet is damaged, its lengths are wrong, its pair doesn't
 # match. The rest goes through the factors, a few with the largest sums.
@@ -345,6 +346,133 @@ def case_joint_allowance(rng, longest):
 
 
 # ---------------------------------------------------------------------------
+# Request R-4: two passes, and one pass alone
+
+
+def two_pass_drafts(rng, longest):
+    """Mostly unlike; at times a pair that a joint run takes too."""
+    if longest:
+        return [generate.longest_draft(rng, generate.faint_entry) for _ in range(2)]
+    u = rng.random()
+    if u < MISMATCH:
+        return generate.matching_pair(rng)
+    if u < MISMATCH + STEEP:
+        return generate.steep_unlike_pair(rng)
+    if u < MISMATCH + STEEP + HEAVY:
+        return generate.heavy_unlike_pair(rng)
+    return generate.unlike_pair(rng)
+
+
+def pass_input(rng, rule, stages, n1, n2, length, inverse):
+    """Real coefficients for an inverse run, a block that meets the bound, or any block."""
+    fits = length == n1 * n2
+    if inverse and fits and chance(rng, 0.45):
+        try:
+            x = model.rows_of(generate.some_block(rng, length), n1, n2)
+            return model.flat(model.pass_stages_forward(rule, stages, x))
+        except model.Refused:
+            pass
+    if fits and chance(rng, 0.3):
+        return generate.pass_block_to_edge(rng, rule, stages, n1, n2, inverse)
+    return generate.some_block(rng, length)
+
+
+def case_two_pass_run(rng, longest, call):
+    inverse = call is model.two_pass_inverse
+    if not longest and chance(rng, CROWD):
+        return case_crowd(rng, laws.crowd_two_pass(rng, inverse), call)
+    rule = case_rule(rng, longest)
+    column, row = two_pass_drafts(rng, longest)
+    col_sheet, row_sheet = numbers_of(column), numbers_of(row)
+    n1, n2 = col_sheet[0], row_sheet[0]
+    x_length, y_length = (n1 * n2, n1 * n2) if longest else block_lengths(rng, [n1, n2])
+    stages = model.both_passes(*model.unlike_pair_of(col_sheet, row_sheet))
+    x = ([generate.small(rng) for _ in range(x_length)] if longest
+         else pass_input(rng, nearest_if_wrong(rule), stages, n1, n2, x_length, inverse))
+    if not longest and chance(rng, RUN_DAMAGE):
+        col_sheet, row_sheet = [numbers_of(draft) for draft in generate.damage_pair(rng, column, row)]
+    y = generate.lent(rng, y_length)
+    answer, after = call(rule, col_sheet, row_sheet, x, y)
+    return Case(rule, col_sheet, row_sheet, x, y, answer, after)
+
+
+def case_two_pass_forward(rng, longest):
+    return case_two_pass_run(rng, longest, model.two_pass_forward)
+
+
+def case_two_pass_inverse(rng, longest):
+    return case_two_pass_run(rng, longest, model.two_pass_inverse)
+
+
+def passes_to_limit(rng, rule):
+    """A line sheet at the limit of allowance in either pass, or a pair whose row
+    pass passes it for the column pass's sake."""
+    sheet, plain = generate.limit_sheet(rng, rule), generate.sheet_of(1, [generate.single_row(0, 1, [0])])
+    return rng.choice([(sheet, plain), (plain, sheet), (laws.SHEET_E, sheet), (laws.SHEET_A, laws.WIDE)])
+
+
+def case_two_pass_allowance(rng, longest):
+    rule = case_rule(rng, longest)
+    if not longest and chance(rng, 0.04):
+        col, row = passes_to_limit(rng, nearest_if_wrong(rule))
+        orders = [col[0], row[0]]
+    else:
+        column, row_draft = two_pass_drafts(rng, longest)
+        orders = [column[0][1], row_draft[0][1]]
+        if not longest and chance(rng, RUN_DAMAGE):
+            column, row_draft = generate.damage_pair(rng, column, row_draft)
+        col, row = numbers_of(column), numbers_of(row_draft)
+    out = generate.lent(rng, 256 if longest else block_lengths(rng, orders)[1])
+    answer, after = model.two_pass_allowance(rule, col, row, out)
+    return Case(rule, col, row, [], out, answer, after)
+
+
+def pass_case(rng, rule, sheet, other, x, y_length, call):
+    """The other order stands in B, in a word of its bits."""
+    y = generate.lent(rng, y_length)
+    answer, after = call(rule, sheet, other, x, y)
+    return Case(rule, sheet, [signed(other)], x, y, answer, after)
+
+
+def case_pass(rng, longest, way, inverse, call):
+    """One pass alone."""
+    if not longest and chance(rng, CROWD):
+        draft, other = generate.crowd_pass(rng, inverse)
+        x = generate.crowd_block(rng, draft[0][1] * other)
+        return pass_case(rng, generate.some_rule(rng), numbers_of(draft), other, x, len(x), call)
+    rule, draft = case_rule(rng, longest), line_draft(rng, longest)
+    other = 16 if longest else generate.some_order(rng)
+    sheet = numbers_of(draft)
+    lines = generate.order_if_wrong(other)
+    n1, n2 = (sheet[0], lines) if way == model.DOWN else (lines, sheet[0])
+    if longest:
+        return pass_case(rng, rule, sheet, other, [generate.small(rng) for _ in range(256)], 256, call)
+    x_length, y_length = block_lengths(rng, [n1, n2]) if lines else rng.choice([(0, 0), (0, 1), (sheet[0], sheet[0])])
+    if other == lines > 0:
+        x = pass_input(rng, nearest_if_wrong(rule), model.pass_of(way, model.recipe_of(sheet)), n1, n2, x_length, inverse)
+    else:
+        x = generate.some_block(rng, x_length)
+    sheet = numbers_of(generate.maybe_damage(rng, draft, RUN_DAMAGE))
+    return pass_case(rng, rule, sheet, other, x, y_length, call)
+
+
+def case_column_forward(rng, longest):
+    return case_pass(rng, longest, model.DOWN, False, model.column_forward)
+
+
+def case_column_inverse(rng, longest):
+    return case_pass(rng, longest, model.DOWN, True, model.column_inverse)
+
+
+def case_row_forward(rng, longest):
+    return case_pass(rng, longest, model.ALONG, False, model.row_forward)
+
+
+def case_row_inverse(rng, longest):
+    return case_pass(rng, longest, model.ALONG, True, model.row_inverse)
+
+
+# ---------------------------------------------------------------------------
 # Strips: X is the count of bytes and the input, Y the output and the bytes
 
 
@@ -491,14 +619,16 @@ def case_program(rng, longest):
 # from the whole run.
 
 
-def law_recipe(rng, longest, joint):
-    """A checked sheet or a checked pair: the laws speak of no other."""
+def law_recipe(rng, longest, shape):
+    """Checked sheets: the laws speak of no other."""
     if not longest:
-        return laws.some_pair(rng) if joint else laws.some_line(rng)
-    if joint:
+        return laws.SOME[shape](rng)
+    if shape == "line":
+        return numbers_of(generate.longest_draft(rng, generate.faint_entry)), None
+    if shape == "joint":
         column, row = generate.longest_pair(rng, generate.faint_entry)
         return numbers_of(column), numbers_of(row)
-    return numbers_of(generate.longest_draft(rng, generate.faint_entry)), None
+    return laws.TwoPass(numbers_of(generate.longest_draft(rng, generate.fainter_entry)) for _ in range(2))
 
 
 def law_block(rng, rule, recipe, longest):
@@ -542,29 +672,29 @@ def by_difference(rng, rule, recipe, longest):
     return law_case(rule, recipe, apart, [around(fx[m] - fz[m], 1, 3 * b[m]) for m in range(len(x))])
 
 
-def case_law(rng, longest, joint):
+def case_law(rng, longest, shape):
     """Either law, on a recipe and a block that it speaks of, by one rule."""
     law, rule = rng.choice([by_exact_product, by_difference]), generate.true_rule(rng)
     while True:
-        case = law(rng, rule, law_recipe(rng, longest, joint), longest)
+        case = law(rng, rule, law_recipe(rng, longest, shape), longest)
         if case is not None:
             return case
 
 
-def cut_run(rng, rule, longest, joint):
+def cut_run(rng, rule, longest, shape):
     """A recipe to be cut, and a block for it."""
     if not longest and chance(rng, CROWD):
-        recipe = laws.crowd_pair(rng) if joint else laws.crowd_line(rng)
+        recipe = laws.CROWDS[shape](rng)
         return recipe, generate.crowd_block(rng, laws.block_length(recipe))
-    recipe = law_recipe(rng, longest, joint)
+    recipe = law_recipe(rng, longest, shape)
     return recipe, law_block(rng, rule, recipe, longest)
 
 
-def case_cut(rng, longest, joint):
+def case_cut(rng, longest, shape):
     """The second part of a cut recipe, on what the first part gave, all by one rule."""
-    rule = generate.true_rule(rng)
+    rule, joint = generate.true_rule(rng), shape == "joint"
     while True:
-        recipe, x = cut_run(rng, rule, longest, joint)
+        recipe, x = cut_run(rng, rule, longest, shape)
         col, row = recipe
         if col[1] < 2:
             continue
@@ -580,20 +710,45 @@ def case_cut(rng, longest, joint):
         return Case(rule, col2, row2 or [], between, y, answer, after)
 
 
+def part_case(rng, rule, part, x, number, side, stage, element, whole):
+    """A part of a cut two-pass run, with what the whole run says of it."""
+    y = generate.lent(rng, len(x))
+    b = part.other if part.number == 21 else [part.other]
+    return Case(rule, part.sheet, b, x, y, (number, side, stage, element), whole if number == 0 else y, part.number)
+
+
+def case_two_pass_cut(rng, longest):
+    """The second part of a two-pass run cut at one of the three places, on what
+    the first part gave; or the first part, where the whole run ends within it."""
+    rule = generate.true_rule(rng)
+    recipe, x = cut_run(rng, rule, longest, "two-pass")
+    position = laws.two_pass_position(rng, recipe)
+    first, second = laws.two_pass_parts(recipe, position)
+    (number, side, stage, element), whole = laws.run_forward(rule, recipe, x)
+    if number != 0 and stage <= position:
+        return part_case(rng, rule, first, x, number, side, stage, element, whole)
+    _, between = laws.run_part(rule, first, x, [9] * len(x))
+    return part_case(rng, rule, second, between, number, side, stage - position if number else 0, element, whole)
+
+
 def case_line_law(rng, longest):
-    return case_law(rng, longest, False)
+    return case_law(rng, longest, "line")
 
 
 def case_joint_law(rng, longest):
-    return case_law(rng, longest, True)
+    return case_law(rng, longest, "joint")
+
+
+def case_two_pass_law(rng, longest):
+    return case_law(rng, longest, "two-pass")
 
 
 def case_line_cut(rng, longest):
-    return case_cut(rng, longest, False)
+    return case_cut(rng, longest, "line")
 
 
 def case_joint_cut(rng, longest):
-    return case_cut(rng, longest, True)
+    return case_cut(rng, longest, "joint")
 
 
 # ---------------------------------------------------------------------------
@@ -620,8 +775,17 @@ CALLS = {
     "line-strip-inverse": (18, case_line_strip_inverse),
     "joint-strip-forward": (19, case_joint_strip_forward),
     "joint-strip-inverse": (20, case_joint_strip_inverse),
+    "two-pass-forward": (21, case_two_pass_forward),
+    "two-pass-inverse": (22, case_two_pass_inverse),
+    "two-pass-allowance": (23, case_two_pass_allowance),
+    "column-forward": (24, case_column_forward),
+    "column-inverse": (25, case_column_inverse),
+    "row-forward": (26, case_row_forward),
+    "row-inverse": (27, case_row_inverse),
+    "two-pass-law": (28, case_two_pass_law),
     "line-cut": (7, case_line_cut),
     "joint-cut": (10, case_joint_cut),
+    "two-pass-cut": (21, case_two_pass_cut),
 }
 
 
@@ -673,6 +837,39 @@ def element_cases():
     yield printed(9, sheet, [], [], 2, answer, None)
 
 
+def two_pass_cases():
+    """Request R-4: the camera, the three rules, allowances, elements, and the order of faults."""
+    ok, c, r, x, after = laws.OK, laws.CAMERA_COLUMNS, laws.CAMERA_BANDS, laws.CAMERA_SAMPLES, laws.CAMERA_AFTER
+    yield printed(2, c, r, [], 0, (12, 0, 0, 0), [])
+    yield printed(10, c, r, x, 16, (12, 0, 0, 0), None)
+    yield printed(21, c, r, x, 16, ok, after)
+    yield printed(22, c, r, after, 16, ok, x)
+    yield printed(23, c, r, [], 16, ok, laws.CAMERA_ALLOWANCES)
+    yield printed(24, c, [4], x, 16, ok, laws.CAMERA_BETWEEN)
+    yield printed(25, c, [4], laws.CAMERA_BETWEEN, 16, ok, x)
+    yield printed(26, r, [4], laws.CAMERA_BETWEEN, 16, ok, after)
+    yield printed(27, r, [4], after, 16, ok, laws.CAMERA_BETWEEN)
+    for rule in (0, 1, 2):
+        for col, row, x, wanted in laws.PASSES:
+            yield printed(21, col, row, x, len(x), ok, wanted[rule], rule)
+            yield printed(22, col, row, wanted[rule], len(x), ok, x, rule)
+        for col, row, wanted in laws.PASS_ALLOWANCES:
+            yield printed(23, col, row, [], 4, ok, wanted[rule], rule)
+        for what, col, row, lines, x, answer in laws.PASS_ELEMENTS:
+            back = int(what == "inverse")
+            a, b, call = (col, row, 21) if lines is None else (col, [lines], 24) if row is None else (row, [lines], 26)
+            yield printed(call + back, a, b, x, len(x), answer, None, rule)
+    for rule, col, row, x, y, answer in laws.PAIR_REFUSALS:
+        for call in (21, 22):
+            yield printed(call, col, row, [0] * x, y, answer, None, rule)
+    for rule, sheet, other, x, y, answer in laws.PASS_REFUSALS:
+        for call in (24, 25, 26, 27):
+            yield printed(call, sheet, [signed(other)], [0] * x, y, answer, None, rule)
+    yield printed(23, [], [], [], 1, (16, 0, 0, 0), None, 3)
+    yield printed(23, laws.SHEET_E, laws.WIDE, [], 4, (13, 0, 10, 0), None)
+    yield printed(23, laws.SHEET_A, laws.WIDE, [], 4, (13, 0, 8, 0), None)
+
+
 def figure_cases():
     ok, corrected, first = laws.OK, model.BUILT_IN, model.FIRST_PRINTING
     sheet_a, sheet_b, sheet_c, sheet_d, sheet_e = laws.SHEET_A, laws.SHEET_B, laws.SHEET_C, laws.SHEET_D, laws.SHEET_E
@@ -703,6 +900,7 @@ def figure_cases():
     yield printed(read, [0x84, 0x00], [], [], 2, (14, 0, 0, 0), None)
     yield from rule_cases()
     yield from element_cases()
+    yield from two_pass_cases()
 
 
 def signed(bits):
@@ -712,7 +910,7 @@ def signed(bits):
 
 def words_of(call_number, case):
     """A case in the order of the stream."""
-    head = [call_number, signed(case.rule), len(case.a), len(case.b), len(case.x), len(case.y)]
+    head = [case.call or call_number, signed(case.rule), len(case.a), len(case.b), len(case.x), len(case.y)]
     before = case.a + case.b + case.x + case.y
     return head + before + list(case.answer) + case.after
 
@@ -745,7 +943,19 @@ BY_RULE = {
     10: lambda rule, case: model.joint_forward(rule, case.a, case.b, case.x, case.y),
     11: lambda rule, case: model.joint_inverse(rule, case.a, case.b, case.x, case.y),
     12: lambda rule, case: model.joint_allowance(rule, case.a, case.b, case.y),
+    21: lambda rule, case: model.two_pass_forward(rule, case.a, case.b, case.x, case.y),
+    22: lambda rule, case: model.two_pass_inverse(rule, case.a, case.b, case.x, case.y),
+    23: lambda rule, case: model.two_pass_allowance(rule, case.a, case.b, case.y),
+    24: lambda rule, case: model.column_forward(rule, case.a, other_order(case), case.x, case.y),
+    25: lambda rule, case: model.column_inverse(rule, case.a, other_order(case), case.x, case.y),
+    26: lambda rule, case: model.row_forward(rule, case.a, other_order(case), case.x, case.y),
+    27: lambda rule, case: model.row_inverse(rule, case.a, other_order(case), case.x, case.y),
 }
+
+
+def other_order(case):
+    """The number whose word is B."""
+    return case.b[0] % 2 ** 32
 
 
 def tally_rules(number, case):
@@ -778,11 +988,33 @@ def joint_stage(back, case, stage):
     return model.flat(x), model.joint_elements(*pairs[max(0, stage - 1)], a.order, b.order)
 
 
+def pass_stage(back, case, stage, ways):
+    """The same of two passes, or of one."""
+    if ways == [model.DOWN, model.ALONG]:
+        a, b = model.unlike_pair_of(case.a, case.b)
+        stages, n1, n2 = model.both_passes(a, b), a.order, b.order
+    else:
+        recipe = model.recipe_of(case.a)
+        stages, orders = model.pass_of(ways[0], recipe), [recipe.order, other_order(case)]
+        n1, n2 = orders if ways == [model.DOWN] else orders[::-1]
+    stages, step = (stages[::-1], model.undo_line) if back else (stages, model.apply_line)
+    x = model.rows_of(case.x, n1, n2)
+    for way, factor in stages[:stage]:
+        x = model.on_lines(way, lambda line: step(case.rule, factor, line), x)
+    return model.flat(x), model.pass_elements(*stages[max(0, stage - 1)], n1, n2)
+
+
 STAGE = {
     7: lambda case, stage: line_stage(False, case, stage),
     8: lambda case, stage: line_stage(True, case, stage),
     10: lambda case, stage: joint_stage(False, case, stage),
     11: lambda case, stage: joint_stage(True, case, stage),
+    21: lambda case, stage: pass_stage(False, case, stage, [model.DOWN, model.ALONG]),
+    22: lambda case, stage: pass_stage(True, case, stage, [model.DOWN, model.ALONG]),
+    24: lambda case, stage: pass_stage(False, case, stage, [model.DOWN]),
+    25: lambda case, stage: pass_stage(True, case, stage, [model.DOWN]),
+    26: lambda case, stage: pass_stage(False, case, stage, [model.ALONG]),
+    27: lambda case, stage: pass_stage(True, case, stage, [model.ALONG]),
 }
 
 
@@ -813,7 +1045,9 @@ def write_stream(name, seed, count, out, tallied):
         size += out.write(packed(words_of(number, case)))
         if tallied:
             tally[tally_key(name, case)] += 1
-            more.update(tally_rules(number, case) + tally_elements(number, case))
+            own = case.call or number
+            more.update(tally_rules(own, case) + tally_elements(own, case))
+            more.update([f"call {case.call}"] * (case.call is not None))
     if tallied:
         print_tally(name, tally, more, count, size)
 

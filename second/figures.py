@@ -5,6 +5,7 @@ code 1 on any failure."""
 
 import random
 import sys
+from collections import namedtuple
 
 import generate
 import model
@@ -108,6 +109,56 @@ ELEMENTS = [
 
 # In every other answer it is 0, also where a stage is named.
 NO_ELEMENT = (WIDE, (13, 0, 9, 0))
+
+
+# Request R-4, worked out by hand. The camera: triangles for its columns, single
+# rows for its four bands. The numbers after the column pass alone, then after both.
+CAMERA_COLUMNS = [4, 2, 2, 1, 1, 1, 1, -4096, 0, -4096, 0, 0, -4096, 3, 1, 1, 1, 1, 3072, 2048, 1024, 0, 0, 0]
+CAMERA_BANDS = [4, 4, 4, 0, 1, 1, 1, 1, -4096, 0, 0, 4, 2, 1, 1, 1, 1, 0, -4096, 0, 4, 3, 1, 1, 1, 1, 0, -4096, 0,
+                4, 1, 1, 1, 1, 1, 1024, 1024, 1024]
+CAMERA_SAMPLES = [101, 104, 97, 121, 103, 107, 98, 124, 102, 105, 99, 127, 98, 101, 96, 122]
+CAMERA_BETWEEN = [101, 104, 98, 124, 2, 3, 1, 3, -1, -2, 1, 3, -4, -4, -3, -5]
+CAMERA_AFTER = [-3, 107, -6, 20, -1, 2, -2, 0, 1, 0, 3, 5, 0, -4, 1, -1]
+CAMERA_ALLOWANCES = [4096, 7168, 4096, 4096] + [0, 2048, 0, 0] * 3
+
+# Two sheets, a block, what two passes make of it by rules 0, 1 and 2. Of sheet a
+# on both sides, the rows first would end in 1, and the joint run does.
+PASSES = [
+    (SHEET_A, SHEET_A, [1, 1, 0, 0], [[1, 2, 1, 2], [1, 1, 0, 0], [1, 1, 0, 0]]),
+    (SHEET_A, SHEET_B, [3, 5, 1, 1], [[-7, -7, -6, -6], [-6, -6, -4, -4], [-7, -7, -5, -5]]),
+    (SHEET_C, SHEET_A, [3, 5, 1, 0, -1, 5], [[-1, 5, 3, 7, 1, 1], [-1, 4, 3, 6, 1, 0], [-1, 5, 3, 7, 1, 0]]),
+]
+
+# By rule 0: sheet a's own share, and half of it beside the row's: 2048 + 1024 + 2048.
+PASS_ALLOWANCES = [
+    (SHEET_A, SHEET_A, [[0, 2048, 2048, 5120], [0, 4096, 4096, 10240], [0, 2048, 2048, 5120]]),
+    (SHEET_E, SHEET_A, [[0, 2048, 0, 2048], [0, 4096, 0, 4096], [0, 2048, 0, 2048]]),
+]
+
+# What is run, the column sheet or none, the row sheet or none, how many lines
+# (of a pass alone), block, answer. Beside it the numbers of the refused stage, and
+# where reading order and line after line name different elements, which.
+PASS_ELEMENTS = [
+    ("forward", LOW_3, None, 2, [1, 1, 0, T, T, 0], (11, 0, 1, 3)),  # 1, 1; 1, T+1; T+1, 1: reading 3, by columns 4
+    ("inverse", LOW_3, None, 2, [-1, -1, 0, T, T, 0], (11, 0, 1, 4)),  # -1, -1; 1, T+1; T+1, 1: reading 3, by columns 4
+    ("forward", UP_3, None, 2, [T, T, T, T, 1, 1], (11, 0, 1, 0)),  # T+1 four times: reading 0, column 0 upward 2
+    ("inverse", UP_3, None, 2, [T, T, T, T, -1, -1], (11, 0, 1, 2)),  # T+1 four times: reading 0, column 0 upward 2
+    ("forward", MIDDLE, None, 2, [0, 1, 0, T, 0, 0], (11, 0, 1, 3)),  # only number 3
+    ("inverse", MIDDLE, None, 2, [0, -1, 0, T, 0, 0], (11, 0, 1, 3)),  # only number 3
+    ("forward", None, UP_3, 2, [T, T, 1, T, T, 1], (11, 0, 1, 0)),  # T+1, T+1, 1 twice: reading 0, row 0 from the right 1
+    ("inverse", None, UP_3, 2, [T, T, -1, T, T, -1], (11, 0, 1, 1)),  # T+1, T+1, -1 twice: reading 0, row 0 from the right 1
+    ("inverse", None, LOW_3, 2, [-1, 0, 0, -1, T, T], (11, 0, 1, 4)),  # only row 1, from the left
+    ("inverse", LOW_3, None, 2, [0, T + 1, T + 1, 0, 0, 0], (11, 0, 0, 1)),  # as given: reading 1, by columns 2
+    ("inverse", None, UP_3, 2, [0, T + 1, T + 1, 0, 0, 0], (11, 0, 0, 1)),  # as given: reading 1, from the right 2
+    ("forward", LOW_3, UP_2, None, [1, 1, 0, T, T, 0], (11, 0, 1, 3)),  # in the column pass, as above
+    ("forward", SHEET_C, UP_2, None, [T, 1, 0, 0, T, 1], (11, 0, 2, 0)),  # T, 1; T, 1; 0, 0, then T+1, 1; T+1, 1
+    # -1, -1; 0, T; T, 0, then -1, -1; 1, T+1; T+1, 1: reading 3, by columns 4
+    ("inverse", LOW_3, LOW_2, None, [-1, -2, 0, T, T, T], (11, 0, 2, 4)),
+    # -1, -1; T, 0; 0, T, then -1, -1; 0, T; T, 0, then the same
+    ("inverse", LOW_3, SWAP_UP, None, [-2, -1, T, 0, T, T], (11, 0, 3, 4)),
+    # in the row pass, which is undone first: T+1, T+1, -1 twice
+    ("inverse", LOW_2, UP_3, None, [T, T, -1, T, T, -1], (11, 0, 1, 1)),
+]
 
 
 class Group:
@@ -294,6 +345,88 @@ def elements(group):
     group.same(allowance(sheet), (answer, [9, 9]))
 
 
+def camera(group):
+    """R-4: the pair that 12 forbids, as two passes, as one pass and the other, back, and its allowances."""
+    c, r, x, y = CAMERA_COLUMNS, CAMERA_BANDS, CAMERA_SAMPLES, [9] * 16
+    group.same(model.check_pair(c, r), (12, 0, 0, 0))
+    group.same(model.joint_forward(0, c, r, x, y), ((12, 0, 0, 0), y))
+    group.same(model.two_pass_forward(0, c, r, x, y), (OK, CAMERA_AFTER))
+    group.same(model.two_pass_inverse(0, c, r, CAMERA_AFTER, y), (OK, x))
+    group.same(model.two_pass_allowance(0, c, r, y), (OK, CAMERA_ALLOWANCES))
+    group.same(model.column_forward(0, c, 4, x, y), (OK, CAMERA_BETWEEN))
+    group.same(model.row_forward(0, r, 4, CAMERA_BETWEEN, y), (OK, CAMERA_AFTER))
+    group.same(model.row_inverse(0, r, 4, CAMERA_AFTER, y), (OK, CAMERA_BETWEEN))
+    group.same(model.column_inverse(0, c, 4, CAMERA_BETWEEN, y), (OK, x))
+
+
+def pass_runs(group):
+    for rule in model.RULES:
+        for col, row, x, wanted in PASSES:
+            y = [9] * len(x)
+            group.same(model.two_pass_forward(rule, col, row, x, y), (OK, wanted[rule]))
+            group.same(model.two_pass_inverse(rule, col, row, wanted[rule], y), (OK, x))
+        for col, row, wanted in PASS_ALLOWANCES:
+            group.same(model.two_pass_allowance(rule, col, row, [9] * 4), (OK, wanted[rule]))
+
+
+PASS_CALLS = {
+    "forward": (model.column_forward, model.row_forward, model.two_pass_forward),
+    "inverse": (model.column_inverse, model.row_inverse, model.two_pass_inverse),
+}
+
+
+def pass_elements(group):
+    """The same by every rule, since nothing is rounded."""
+    for what, col, row, lines, x, answer in PASS_ELEMENTS:
+        down, along, both = PASS_CALLS[what]
+        for rule in model.RULES:
+            y = [9] * len(x)
+            got = both(rule, col, row, x, y) if lines is None else (
+                down(rule, col, lines, x, y) if row is None else along(rule, row, lines, x, y))
+            group.same(got, (answer, y), (what, col, row, x))
+
+
+# Rule, column sheet, row sheet, lengths of input and output, answer: each fault
+# stands beside later ones. Of a pass alone: rule, sheet, other order, lengths, answer.
+NO_SHEET = [0]  # 2, place 0
+NO_SIGN = [2, 1, 2, 1, 0, 2048]  # 7, place 4
+PAIR_REFUSALS = [
+    (3, NO_SHEET, NO_SHEET, 1, 1, (16, 0, 0, 0)),
+    (0, NO_SIGN, NO_SHEET, 1, 1, (7, 0, 4, 0)),
+    (0, SHEET_A, NO_SIGN, 1, 1, (7, 1, 4, 0)),
+    (0, SHEET_A, SHEET_D, 1, 1, (10, 0, 0, 0)),
+    (0, SHEET_A, SHEET_D, 6, 1, (10, 1, 0, 0)),
+    (0, SHEET_B, SHEET_A, 5, 4, (10, 0, 0, 0)),
+]
+PASS_REFUSALS = [
+    (3, NO_SHEET, 0, 1, 1, (16, 0, 0, 0)),
+    (0, NO_SIGN, 0, 1, 1, (7, 0, 4, 0)),
+    (0, SHEET_A, 0, 1, 1, (2, 0, 0, 0)),
+    (0, SHEET_A, 0, 0, 0, (2, 0, 0, 0)),
+    (0, SHEET_A, 17, 34, 34, (2, 0, 0, 0)),
+    (0, SHEET_A, 2 ** 32 - 1, 1, 1, (2, 0, 0, 0)),
+    (0, SHEET_A, 3, 1, 1, (10, 0, 0, 0)),
+    (0, SHEET_A, 3, 6, 1, (10, 1, 0, 0)),
+    (0, SHEET_A, 16, 32, 31, (10, 1, 0, 0)),
+]
+
+
+def pass_refusals(group):
+    for rule, col, row, x, y, answer in PAIR_REFUSALS:
+        for call in (model.two_pass_forward, model.two_pass_inverse):
+            group.same(call(rule, col, row, [0] * x, [9] * y), (answer, [9] * y))
+    for rule, sheet, other, x, y, answer in PASS_REFUSALS:
+        for call in (model.column_forward, model.column_inverse, model.row_forward, model.row_inverse):
+            group.same(call(rule, sheet, other, [0] * x, [9] * y), (answer, [9] * y))
+    group.same(model.two_pass_allowance(3, [], [], [9]), ((16, 0, 0, 0), [9]))
+    group.same(model.two_pass_allowance(0, SHEET_A, NO_SIGN, [9]), ((7, 1, 4, 0), [9]))
+    group.same(model.two_pass_allowance(0, SHEET_A, SHEET_D, [9]), ((10, 1, 0, 0), [9]))
+    group.same(model.two_pass_allowance(0, WIDE, SHEET_A, [9] * 4), ((13, 0, 9, 0), [9] * 4))
+    group.same(model.two_pass_allowance(0, SHEET_E, WIDE, [9] * 4), ((13, 0, 10, 0), [9] * 4))
+    # from 2048, 2048: 12288, 53245, 227303, 964450, 4086916, 17313165, 73337397
+    group.same(model.two_pass_allowance(0, SHEET_A, WIDE, [9] * 4), ((13, 0, 8, 0), [9] * 4))
+
+
 def figure_h(group):
     group.same(model.encode([16384]), unhex("80 80 02"))
     group.same(model.read(unhex("84 00"), [9]), ((14, 0, 0, 0), [9]))
@@ -312,35 +445,40 @@ def limits(group):
 
 
 # ---------------------------------------------------------------------------
-# Laws. Each is tried on a line (row is None) and on a pair, by one shape of
-# run: run_forward(rule, recipe, x), where a recipe is (column sheet, row sheet).
-# One rule holds throughout a law.
+# Laws. Each is tried on a line (row is None), on a pair and on a pair for two
+# passes, by one shape of run: run_forward(rule, recipe, x), where a recipe is
+# (column sheet, row sheet). One rule holds throughout a law.
+
+
+class TwoPass(tuple):
+    """A pair for two passes; a pair for a joint run is a plain tuple."""
+
+
+def call_on(recipe, line, joint, two_pass, rule, *blocks):
+    """The recipe's call on its sheets."""
+    col, row = recipe
+    if row is None:
+        return line(rule, col, *blocks)
+    return (two_pass if isinstance(recipe, TwoPass) else joint)(rule, col, row, *blocks)
 
 
 def run_forward(rule, recipe, x):
-    col, row = recipe
-    if row is None:
-        return model.line_forward(rule, col, x, [9] * len(x))
-    return model.joint_forward(rule, col, row, x, [9] * len(x))
+    return call_on(recipe, model.line_forward, model.joint_forward, model.two_pass_forward, rule, x, [9] * len(x))
 
 
 def run_inverse(rule, recipe, y):
-    col, row = recipe
-    if row is None:
-        return model.line_inverse(rule, col, y, [9] * len(y))
-    return model.joint_inverse(rule, col, row, y, [9] * len(y))
+    return call_on(recipe, model.line_inverse, model.joint_inverse, model.two_pass_inverse, rule, y, [9] * len(y))
 
 
 def run_allowance(rule, recipe, length):
-    col, row = recipe
-    if row is None:
-        return model.line_allowance(rule, col, [9] * length)
-    return model.joint_allowance(rule, col, row, [9] * length)
+    return call_on(recipe, model.line_allowance, model.joint_allowance, model.two_pass_allowance, rule, [9] * length)
 
 
 def exact(recipe, x):
     col, row = recipe
-    return model.line_exact(col, x) if row is None else model.joint_exact(col, row, x)
+    if row is None:
+        return model.line_exact(col, x)
+    return (model.two_pass_exact if isinstance(recipe, TwoPass) else model.joint_exact)(col, row, x)
 
 
 def block_length(recipe):
@@ -368,9 +506,24 @@ def crowd_pair(rng, inverse=False):
     return (generate.numbers_of(column), generate.numbers_of(row))
 
 
+def some_two_pass(rng):
+    """Sheets that are unlike in kinds and counts, mostly."""
+    column, row = generate.unlike_pair(rng)
+    return TwoPass((generate.numbers_of(column), generate.numbers_of(row)))
+
+
+def crowd_two_pass(rng, inverse=False):
+    """Two passes in which several numbers may be beyond the bound at one stage."""
+    column, row = generate.crowd_passes(rng, inverse)
+    return TwoPass((generate.numbers_of(column), generate.numbers_of(row)))
+
+
 def edge_run(rng, rule, recipe, inverse):
     """A block that meets the bound at some stage."""
     col, row = recipe
+    if isinstance(recipe, TwoPass):
+        stages = model.both_passes(*model.unlike_pair_of(col, row))
+        return generate.pass_block_to_edge(rng, rule, stages, col[0], row[0], inverse)
     if row is None:
         return generate.line_block_to_edge(rng, rule, col, inverse)
     return generate.joint_block_to_edge(rng, rule, col, row, inverse)
@@ -472,6 +625,110 @@ def try_cut(rng, rule, recipe, x, group):
     group.same((answer, after), run_forward(rule, recipe, x), (recipe, x))
 
 
+# A part of a two-pass run as a call: its number in the stream, the sheet, and
+# the row sheet or the other order.
+Part = namedtuple("Part", "number sheet other")
+PARTS = {21: model.two_pass_forward, 24: model.column_forward, 26: model.row_forward}
+
+
+def run_part(rule, part, x, y):
+    return PARTS[part.number](rule, part.sheet, part.other, x, y)
+
+
+def two_pass_parts(recipe, position):
+    """The parts before and after a stage. R-4: "a cut falls between column
+    stages, between the passes or between row stages"."""
+    col, row = recipe
+    if position < col[1]:
+        first, second = cut_sheet(col, position)
+        return Part(24, first, row[0]), Part(21, second, row)
+    if position == col[1]:
+        return Part(24, col, row[0]), Part(26, row, col[0])
+    first, second = cut_sheet(row, position - col[1])
+    return Part(21, col, first), Part(26, second, col[0])
+
+
+def two_pass_position(rng, recipe):
+    """A stage to cut at, each of the three places as often as may be."""
+    k1, k2 = recipe[0][1], recipe[1][1]
+    return rng.choice(rng.choice([places for places in (range(1, k1), [k1], range(k1 + 1, k1 + k2)) if places]))
+
+
+def pass_cut_law(rng, rule, recipe, group):
+    """The whole run is the run of the first part, then of the second, at the three places."""
+    try_pass_cut(rng, rule, recipe, some_input(rng, rule, recipe), group)
+
+
+def crowd_pass_cut_law(rng, rule, recipe, group):
+    """The same where several numbers are beyond the bound at one stage."""
+    try_pass_cut(rng, rule, recipe, generate.crowd_block(rng, block_length(recipe)), group)
+
+
+def try_pass_cut(rng, rule, recipe, x, group):
+    position = two_pass_position(rng, recipe)
+    first, second = two_pass_parts(recipe, position)
+    untouched = [9] * len(x)
+    answer, after = run_part(rule, first, x, untouched)
+    if answer == OK:
+        answer, after = run_part(rule, second, after, untouched)
+        if answer[NUMBER] == 11:
+            answer = (11, 0, answer[PLACE] + position, answer[ELEMENT])
+    group.same((answer, after), run_forward(rule, recipe, x), (recipe, x, position))
+
+
+def by_line_runs(rule, recipe, x, back):
+    """Two passes got from the line runs of each column and of each row. The
+    first refused stage counts; of the lines refused there, an inverse run names
+    the first line's own element, a forward run and stage 0 the least of all."""
+    col, row = recipe
+    n1, n2, x, before = col[0], row[0], list(x), 0
+    columns = [[i * n2 + j for i in range(n1)] for j in range(n2)]
+    rows = [[i * n2 + j for j in range(n2)] for i in range(n1)]
+    passes = [(col, columns), (row, rows)]
+    for sheet, lines in reversed(passes) if back else passes:
+        run_line = run_inverse if back else run_forward
+        runs = [run_line(rule, (sheet, None), [x[e] for e in line]) for line in lines]
+        stages = [answer[PLACE] for answer, _ in runs if answer != OK]
+        if stages:
+            named = [line[answer[ELEMENT]] for line, (answer, _) in zip(lines, runs)
+                     if answer != OK and answer[PLACE] == min(stages)]
+            stage = before + min(stages)
+            return (11, 0, stage, named[0] if back and stage > 0 else min(named)), [9] * len(x)
+        for line, (_, after) in zip(lines, runs):
+            for e, number in zip(line, after):
+                x[e] = number
+        before += sheet[1]
+    return OK, x
+
+
+def lines_law(rng, rule, recipe, group):
+    """Two passes are the line runs of each column, then of each row."""
+    x, y = some_input(rng, rule, recipe), some_input(rng, rule, recipe, True)
+    group.same(run_forward(rule, recipe, x), by_line_runs(rule, recipe, x, False), (recipe, x))
+    group.same(run_inverse(rule, recipe, y), by_line_runs(rule, recipe, y, True), (recipe, y))
+
+
+def crowd_lines_law(rng, rule, recipe, group):
+    """The same where several numbers are beyond the bound at one stage; back, of another recipe."""
+    x = generate.crowd_block(rng, block_length(recipe))
+    group.same(run_forward(rule, recipe, x), by_line_runs(rule, recipe, x, False), (recipe, x))
+    recipe = crowd_two_pass(rng, True)
+    y = generate.crowd_block(rng, block_length(recipe))
+    group.same(run_inverse(rule, recipe, y), by_line_runs(rule, recipe, y, True), (recipe, y))
+
+
+def pass_trip_law(rng, rule, recipe, group):
+    """A pass alone undoes itself, down the columns and along the rows, both ways."""
+    sheet, other = recipe[0], recipe[1][0]
+    x = generate.some_block(rng, sheet[0] * other)
+    y = [9] * len(x)
+    for there, back in ((model.column_forward, model.column_inverse), (model.row_forward, model.row_inverse)):
+        for one, two in ((there, back), (back, there)):
+            answer, after = one(rule, sheet, other, x, y)
+            if answer == OK:
+                group.same(two(rule, sheet, other, after, y), (OK, x), (sheet, other))
+
+
 def encoding_law(rng, group):
     """Reading what was written gives the sheet; writing what was read, the bytes."""
     sheet = generate.numbers_of(generate.some_draft(rng))
@@ -493,17 +750,26 @@ def decoding_law(rng, group):
     group.same(model.encode(numbers), data)
 
 
+# Each law with the makers of its recipes.
+SOME = {"line": some_line, "joint": some_pair, "two-pass": some_two_pass}
+CROWDS = {"line": crowd_line, "joint": crowd_pair, "two-pass": crowd_two_pass}
 LAWS = [
-    (round_trip_law, some_line, some_pair),
-    (trip_round_law, some_line, some_pair),
-    (allowance_law, some_line, some_pair),
-    (difference_law, some_line, some_pair),
-    (cut_law, some_line, some_pair),
-    (crowd_cut_law, crowd_line, crowd_pair),
+    (round_trip_law, SOME),
+    (trip_round_law, SOME),
+    (allowance_law, SOME),
+    (difference_law, SOME),
+    (cut_law, {"line": some_line, "joint": some_pair}),
+    (crowd_cut_law, {"line": crowd_line, "joint": crowd_pair}),
+    (pass_cut_law, {"two-pass": some_two_pass}),
+    (crowd_pass_cut_law, {"two-pass": crowd_two_pass}),
+    (lines_law, {"two-pass": some_two_pass}),
+    (crowd_lines_law, {"two-pass": crowd_two_pass}),
+    (pass_trip_law, {"two-pass": some_two_pass}),
 ]
 FIGURES = [
     figure_a, figure_b, figure_c, figure_d, figure_e, figure_f, figure_g, figure_h, request_2,
-    rule_halves, rule_runs, rule_drift, rule_allowances, rule_refusals, elements, worked_example, limits,
+    rule_halves, rule_runs, rule_drift, rule_allowances, rule_refusals, elements,
+    camera, pass_runs, pass_elements, pass_refusals, worked_example, limits,
 ]
 
 
@@ -528,10 +794,10 @@ def all_groups(seed, count):
         group = Group(figure.__name__)
         figure(group)
         yield group
-    for law, line, pair in LAWS:
+    for law, makers in LAWS:
         for rule in model.RULES:
-            yield try_law(law, "line", line, rule, seed, count)
-            yield try_law(law, "joint", pair, rule, seed, count)
+            for kind, some_recipe in makers.items():
+                yield try_law(law, kind, some_recipe, rule, seed, count)
     for law in (encoding_law, decoding_law):
         yield try_code_law(law, seed, count)
 

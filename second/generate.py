@@ -104,6 +104,11 @@ def faint_entry(rng):
     return rng.randint(-150, 150)
 
 
+def fainter_entry(rng):
+    """Small enough that the allowances of two passes of 32 factors stay within their limit."""
+    return rng.randint(-40, 40)
+
+
 def steep_entry(rng):
     """Large and mostly no multiple of 4096: allowances grow fast."""
     return rng.choice([-1, 1]) * rng.randint(9000, 16384)
@@ -394,6 +399,62 @@ def damage_pair(rng, column, row):
 
 
 # ---------------------------------------------------------------------------
+# Request R-4: unlike pairs, and the other order of a pass alone
+
+# Numbers of 32 bits that are no order, some of them one if only some of their
+# bits are looked at.
+WRONG_ORDERS = [0, 0, 17, 17, 18, 32, 256, 259, 65538, I32_MAX, I32_MAX + 1, 2 ** 32 - 1, 2 ** 32 - 1]
+WRONG_ORDER = 0.1
+
+
+def unlike_pair(rng):
+    """Kinds and counts as they come, each sheet's by itself; the rules part at times."""
+    n1, n2, most = joint_shape(rng)
+    column, row = [
+        sheet_draft(rng, n, half_kinds(rng), odd_half_entry) if chance(rng, HALF)
+        else sheet_draft(rng, n, some_kinds(rng, rng.randint(1, most + 1)))
+        for n in (n1, n2)
+    ]
+    return column, row
+
+
+def steep_unlike_pair(rng):
+    """An unlike pair whose allowances or blocks may pass their limit in either pass."""
+    column, row = [
+        sheet_draft(rng, rng.randint(1, 3), [rng.choice([1, 2, 3, 4, 4]) for _ in range(rng.randint(1, 7))],
+                    rng.choice([steep_entry, uniform_entry, half_entry]))
+        for _ in range(2)
+    ]
+    return column, row
+
+
+def heavy_unlike_pair(rng):
+    """Orders 16 with entries at their limit and of one sign: the largest sums."""
+    entry = rng.choice([lambda rng: 16384, lambda rng: 16383, lambda rng: -16384])
+    column, row = [
+        sheet_draft(rng, 16, [rng.choice([2, 3, 4]) for _ in range(rng.randint(1, 3))], entry, sign)
+        for sign in (plain_sign, minus_sign)
+    ]
+    return column, row
+
+
+def true_order(rng):
+    """How many columns or rows a pass alone has: mostly few, the largest too."""
+    u = rng.random()
+    return rng.randint(1, 4) if u < 0.85 else rng.randint(1, 9) if u < 0.96 else rng.choice([15, 16])
+
+
+def some_order(rng):
+    """An order, or at times a number that is none."""
+    return rng.choice(WRONG_ORDERS) if chance(rng, WRONG_ORDER) else true_order(rng)
+
+
+def order_if_wrong(other):
+    """An order by which a block for the call is made: short where the number is large."""
+    return min(other, 18)
+
+
+# ---------------------------------------------------------------------------
 # Blocks
 
 
@@ -494,6 +555,21 @@ def joint_block_to_edge(rng, rule, col, row, inverse):
     return block_to_edge(rng, a.order * b.order, back)
 
 
+def pass_block_to_edge(rng, rule, stages, n1, n2, inverse):
+    """The same for one pass or two."""
+    stage = edge_stage(rng, len(stages))
+
+    def back(block):
+        block = model.rows_of(block, n1, n2)
+        steps, step = (stages[len(stages) - stage:], model.apply_line) if inverse else (
+            stages[:stage][::-1], model.undo_line)
+        for way, factor in steps:
+            block = model.on_lines(way, lambda line: step(rule, factor, line), block)
+        return model.flat(block)
+
+    return block_to_edge(rng, n1 * n2, back)
+
+
 # ---------------------------------------------------------------------------
 # Crowds: runs with several numbers beyond the bound at one stage, so that it
 # matters in which order they are looked at. Numbers at the bound pass quiet
@@ -547,6 +623,30 @@ def crowd_pair(rng, back):
     plan = crowd_plan(rng, back, JOINT_PUSHERS)
     column, row = [crowd_draft(rng, JOINT_ORDERS, plan) for _ in range(2)]
     return column, row
+
+
+# A pass pushes along a line only, so kind 4 pushes one number of each line.
+PASS_PUSHERS = [2, 2, 2, 3, 3, 3, 3, 4]
+PASS_ORDERS = [2, 3, 3, 3, 4, 4, 5]
+
+
+def quiet_plan(rng):
+    return [(kind, quiet_entry) for kind in some_kinds(rng, rng.choice([1, 1, 2, 3]))]
+
+
+def crowd_passes(rng, back):
+    """Two passes, the first to run all quiet at times, and the pushing factor in the other then."""
+    pushing = crowd_plan(rng, back, PASS_PUSHERS)
+    in_first = chance(rng, 0.5)
+    first, second = (pushing, [(kind, mixed_entry) for kind in some_kinds(rng, 1)]) if in_first else (
+        quiet_plan(rng), pushing)
+    column, row = [crowd_draft(rng, PASS_ORDERS, plan) for plan in ((second, first) if back else (first, second))]
+    return column, row
+
+
+def crowd_pass(rng, back):
+    """A sheet for one pass, and how many lines it has."""
+    return crowd_draft(rng, PASS_ORDERS, crowd_plan(rng, back, PASS_PUSHERS)), rng.choice([2, 2, 3, 3, 4, 5])
 
 
 def at_bound(rng, sign):

@@ -146,6 +146,11 @@ def pair_of(col, row):
     return column_recipe, row_recipe
 
 
+def unlike_pair_of(col, row):
+    """Request R-4: "as for the joint run, without 12"."""
+    return recipe_of(col, 0), recipe_of(row, 1)
+
+
 def match(a, b):
     """12: "first position whose kinds differ, else the smaller count"."""
     smaller = min(len(a.factors), len(b.factors))
@@ -354,6 +359,61 @@ def joint_stages_inverse(rule, a, b, y):
 
 
 # ---------------------------------------------------------------------------
+# Request R-4: two passes over a rectangle
+
+# A pass goes one of two ways: "down each column" or "along each row".
+DOWN, ALONG = "down", "along"
+
+
+def turned(block):
+    """The columns of a block, as rows."""
+    return [list(column) for column in zip(*block)]
+
+
+def on_lines(way, step, block):
+    """A step taken on every column, or on every row."""
+    if way == ALONG:
+        return [step(row) for row in block]
+    return turned([step(column) for column in turned(block)])
+
+
+def pass_of(way, recipe):
+    """"A stage is one factor over the whole rectangle"."""
+    return [(way, factor) for factor in recipe.factors]
+
+
+def both_passes(a, b):
+    """"The column sheet down each column, then the row sheet along each row"."""
+    return pass_of(DOWN, a) + pass_of(ALONG, b)
+
+
+def pass_elements(way, factor, n1, n2):
+    """R-7, of a pass undone: "line after line by number", each line in the
+    factor's recovery order. Elements are those of the whole block."""
+    if way == DOWN:
+        return [i * n2 + j for j in range(n2) for i in line_recovery(factor, n1)]
+    return [i * n2 + j for i in range(n1) for j in line_recovery(factor, n2)]
+
+
+def pass_stages_forward(rule, stages, x):
+    """The stages of one pass or of two, "counted in the order applied"."""
+    check_bound(flat(x), 0, reading_order(flat(x)))
+    for stage, (way, factor) in enumerate(stages, 1):
+        x = on_lines(way, lambda line: apply_line(rule, factor, line), x)
+        check_bound(flat(x), stage, reading_order(flat(x)))
+    return x
+
+
+def pass_stages_inverse(rule, stages, y):
+    """"Or undone": the last stage first, so that the rows are undone first."""
+    check_bound(flat(y), 0, reading_order(flat(y)))
+    for stage, (way, factor) in enumerate(reversed(stages), 1):
+        y = on_lines(way, lambda line: undo_line(rule, factor, line), y)
+        check_bound(flat(y), stage, pass_elements(way, factor, len(y), len(y[0])))
+    return y
+
+
+# ---------------------------------------------------------------------------
 # Allowance
 
 
@@ -426,6 +486,15 @@ def joint_stages_allowance(rule, a, b):
     return allowances
 
 
+def pass_stages_allowance(rule, stages, n1, n2):
+    """"The row pass's allowance starts from the column pass's"."""
+    b = [[0] * n2 for _ in range(n1)]
+    for stage, (way, factor) in enumerate(stages, 1):
+        b = on_lines(way, lambda line: allow_line(rule, factor, line), b)
+        check_allowance(flat(b), stage)
+    return b
+
+
 def line_exact(sheet, x):
     """E and D = 4096^K: every factor scaled by 4096, without rounding."""
     recipe = recipe_of(sheet)
@@ -444,6 +513,20 @@ def joint_exact(col, row, x):
     for fa, fb in zip(a.factors, b.factors):
         e = exact_stage(fa, fb, e)
     return flat(e), SCALE ** (2 * len(a.factors))
+
+
+def two_pass_exact(col, row, x):
+    """E and D = 4096^(K1+K2): "scale 4096 for each factor of either sheet"."""
+    a, b = unlike_pair_of(col, row)
+    e = rows_of(x, a.order, b.order)
+    for way, factor in both_passes(a, b):
+        e = on_lines(way, lambda line: exact_line(factor, line), e)
+    return flat(e), SCALE ** (len(a.factors) + len(b.factors))
+
+
+def exact_line(factor, x):
+    """A line after a factor scaled by 4096."""
+    return [sum(factor.matrix[m][k] * x[k] for k in factor.used[m]) for m in range(len(x))]
 
 
 def exact_stage(fa, fb, x):
@@ -652,6 +735,81 @@ def joint_allowance(rule, col, row, out):
         return accepted(), flat(joint_stages_allowance(rule, a, b))
     except Refused as refused:
         return refused.answer, list(out)
+
+
+# ---------------------------------------------------------------------------
+# Request R-4: the calls of two passes, and of one pass alone
+
+
+def two_pass_forward(rule, col, row, x, y):
+    """A forward run of two passes."""
+    try:
+        check_rule(rule)
+        a, b = unlike_pair_of(col, row)
+        check_lengths(a.order * b.order, x, y)
+        block = rows_of(x, a.order, b.order)
+        return accepted(), flat(pass_stages_forward(rule, both_passes(a, b), block))
+    except Refused as refused:
+        return refused.answer, list(y)
+
+
+def two_pass_inverse(rule, col, row, y_in, out):
+    """"The inverse undoes rows first"."""
+    try:
+        check_rule(rule)
+        a, b = unlike_pair_of(col, row)
+        check_lengths(a.order * b.order, y_in, out)
+        block = rows_of(y_in, a.order, b.order)
+        return accepted(), flat(pass_stages_inverse(rule, both_passes(a, b), block))
+    except Refused as refused:
+        return refused.answer, list(out)
+
+
+def two_pass_allowance(rule, col, row, out):
+    """The allowances of both passes."""
+    try:
+        check_rule(rule)
+        a, b = unlike_pair_of(col, row)
+        check_lengths(a.order * b.order, None, out)
+        return accepted(), flat(pass_stages_allowance(rule, both_passes(a, b), a.order, b.order))
+    except Refused as refused:
+        return refused.answer, list(out)
+
+
+def check_other_order(other):
+    """"Refused 2, place 0, after the sheet's own faults"."""
+    if not 1 <= other <= ORDER_LIMIT:
+        raise Refused(2, 0)
+
+
+def one_pass(rule, way, sheet, other, x, y, run):
+    """"One pass alone": the sheet is that of no pair, so its faults have side 0
+    whichever way it goes. A column pass has `other` columns, a row pass rows."""
+    try:
+        check_rule(rule)
+        recipe = recipe_of(sheet)
+        check_other_order(other)
+        n1, n2 = (recipe.order, other) if way == DOWN else (other, recipe.order)
+        check_lengths(n1 * n2, x, y)
+        return accepted(), flat(run(rule, pass_of(way, recipe), rows_of(x, n1, n2)))
+    except Refused as refused:
+        return refused.answer, list(y)
+
+
+def column_forward(rule, sheet, other, x, y):
+    return one_pass(rule, DOWN, sheet, other, x, y, pass_stages_forward)
+
+
+def column_inverse(rule, sheet, other, x, y):
+    return one_pass(rule, DOWN, sheet, other, x, y, pass_stages_inverse)
+
+
+def row_forward(rule, sheet, other, x, y):
+    return one_pass(rule, ALONG, sheet, other, x, y, pass_stages_forward)
+
+
+def row_inverse(rule, sheet, other, x, y):
+    return one_pass(rule, ALONG, sheet, other, x, y, pass_stages_inverse)
 
 
 # ---------------------------------------------------------------------------

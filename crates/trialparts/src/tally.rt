@@ -2,11 +2,11 @@
 // differs.
 ghost use Prim.Native.Nat.{_≤_};
 
-const CALLS: usize = 20;
+const CALLS: usize = 28;
 
 // Where a call's counts stand. A number that is no call's counts as 0.
 fn slot(call: usize) -> usize
-    ensures { λ r. ⌜ r ≤ 60 ⌝ }
+    ensures { λ r. ⌜ r ≤ 84 ⌝ }
 {
     if call > CALLS {
         return 0;
@@ -15,7 +15,7 @@ fn slot(call: usize) -> usize
 }
 
 // One case more.
-pub fn note(counts: &mut [u64; 63], call: usize, case: u64, agrees: bool) {
+pub fn note(counts: &mut [u64; 87], call: usize, case: u64, agrees: bool) {
     let i = slot(call);
     if agrees {
         counts[i] = std::num::wrapping_add_u64(counts[i], 1);
@@ -50,6 +50,14 @@ fn print_name(call: usize) -> bool {
         18 => io::write_all(1, b"line-strip-inverse"),
         19 => io::write_all(1, b"joint-strip-forward"),
         20 => io::write_all(1, b"joint-strip-inverse"),
+        21 => io::write_all(1, b"two-pass-forward"),
+        22 => io::write_all(1, b"two-pass-inverse"),
+        23 => io::write_all(1, b"two-pass-allowance"),
+        24 => io::write_all(1, b"column-forward"),
+        25 => io::write_all(1, b"column-inverse"),
+        26 => io::write_all(1, b"row-forward"),
+        27 => io::write_all(1, b"row-inverse"),
+        28 => io::write_all(1, b"two-pass-law"),
         _ => io::write_all(1, b"no call"),
     }
 }
@@ -72,7 +80,7 @@ fn print_line(call: usize, agree: u64, differ: u64, first: u64) {
 }
 
 // A line for each call that had a case.
-pub fn print_all(counts: &[u64; 63]) {
+pub fn print_all(counts: &[u64; 87]) {
     for call in 0..CALLS + 1 {
         let i = slot(call);
         print_line(call, counts[i], counts[i + 1], counts[i + 2]);

@@ -3,6 +3,8 @@ use trialparts::parts::ROOM;
 ghost use mathlib.Core.Path.{_≡_};
 ghost use lib.ListN.{length};
 use rules::Answer;
+use trialparts::parts::at;
+use trialparts::parts::bits_of;
 use trialparts::parts::is_front;
 use trialparts::parts::load;
 use trialparts::parts::load_bytes;
@@ -88,6 +90,37 @@ fn strip(call: usize, rule: u32, a: &[i32], b: &[i32], x: &[i32], y: &mut [i32])
     r
 }
 
+// A pass alone: A is its sheet, and the other order is the number of B's word.
+fn one_pass(call: usize, rule: u32, a: &[i32], other: u32, x: &[i32], y: &mut [i32]) -> Answer {
+    if call == 24 {
+        return twopass::column_forward(rule, a, other, x, y);
+    }
+    if call == 25 {
+        return twopass::column_inverse(rule, a, other, x, y);
+    }
+    if call == 26 {
+        return twopass::row_forward(rule, a, other, x, y);
+    }
+    if call == 27 {
+        return twopass::row_inverse(rule, a, other, x, y);
+    }
+    unknown()
+}
+
+// Two passes, and a pass alone, by their numbers.
+fn two_pass(call: usize, rule: u32, a: &[i32], b: &[i32], x: &[i32], y: &mut [i32]) -> Answer {
+    if call == 21 || call == 28 {
+        return twopass::forward(rule, a, b, x, y);
+    }
+    if call == 22 {
+        return twopass::inverse(rule, a, b, x, y);
+    }
+    if call == 23 {
+        return twopass::allowance(rule, a, b, y);
+    }
+    one_pass(call, rule, a, bits_of(at(b, 0)), x, y)
+}
+
 // Room for a text.
 fn blank_text() -> [u8; ROOM]
     ensures { λ r. ⌜ 20000 ≡ length r ⌝ }
@@ -146,6 +179,9 @@ pub fn answer(call: usize, rule: u32, a: &[i32], b: &[i32], x: &[i32], y: &mut [
     }
     if call == 16 {
         return recipe::first_printing(y);
+    }
+    if call > 20 {
+        return two_pass(call, rule, a, b, x, y);
     }
     if call > 16 {
         return strip(call, rule, a, b, x, y);

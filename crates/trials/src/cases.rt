@@ -76,8 +76,8 @@ fn lay_out(head: &[i32; 6]) -> Layout {
     }
 }
 
-// Runs a case: whether its answer and the lent memory are the expected ones. Calls 14 and 15 try a law: their coefficients have
-// to lie between two blocks, the least in Y before the call and the largest in Y after it.
+// Runs a case: whether its answer and the lent memory are the expected ones. Calls 14, 15 and 28 try a law: their coefficients
+// have to lie between two blocks, the least in Y before the call and the largest in Y after it.
 fn judge(call: usize, rule: u32, c: Layout, w: &[i32]) -> bool {
     let a = part(w, 0, c.a);
     let b = part(w, c.a, c.b);
@@ -100,7 +100,7 @@ fn judge(call: usize, rule: u32, c: Layout, w: &[i32]) -> bool {
         return false;
     }
     let after = part(w, c.after, c.end);
-    if call == 14 || call == 15 {
+    if call == 14 || call == 15 || call == 28 {
         return is_between(&room, y, after);
     }
     is_front(&room, after)
@@ -142,7 +142,7 @@ fn next_case() -> Verdict {
 }
 
 // Runs case after case, and counts.
-pub fn run_all(counts: &mut [u64; 63]) -> End {
+pub fn run_all(counts: &mut [u64; 87]) -> End {
     for case in 0..MANY {
         let v = next_case();
         if v.call == 0 {

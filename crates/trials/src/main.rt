@@ -8,7 +8,7 @@ use trialparts::tally::print_all;
 use trialparts::tally::print_end;
 
 fn main() {
-    let mut counts = [0u64; 63];
+    let mut counts = [0u64; 87];
     let end = cases::run_all(&mut counts);
     print_all(&counts);
     print_end(end.cases, end.whole);

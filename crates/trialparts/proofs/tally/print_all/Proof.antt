@@ -1,14 +1,14 @@
--- The loop: a call's three counts stand below 63.
+-- The loop: a call's three counts stand below 87.
 use Prim.Native.Nat.{_-_, _≤_}
 use borrow.Author.Needs.{needs}
 use Rattle.trialparts.proofs.tally.print_all.Statement.{statement}
 use Rattle.trialparts.proofs.tally.print_all.Tie as tie
 
 abbrev Inv-loop : tie.InvT-loop
-Inv-loop counts call₀ call = call ≤ 21
+Inv-loop counts call₀ call = call ≤ 29
 
 abbrev μ-loop : tie.MeasureT-loop
-μ-loop counts call₀ call = 21 - call
+μ-loop counts call₀ call = 29 - call
 
 loop-holds : tie.Need-loop-holds Inv-loop μ-loop
 loop-holds c = search needs
