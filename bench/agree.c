@@ -1,6 +1,6 @@
 // Holds the answers of the library and of its twin to each other: on recipes of all orders and kinds, by every rule and by
 // numbers that are none, on blocks within the bound, at it and beyond it, on sheets with a fault, on pairs that do not match, on
-// wrong lengths; single calls and strips.
+// orders that are none, on wrong lengths; single calls and strips, joint stages and passes.
 #include "calls.h"
 #include <stdio.h>
 #include <stdlib.h>
@@ -8,7 +8,9 @@
 
 enum { MORE = 1, STRIP = 20, MOST = MOST_BLOCKS * ORDER * ORDER + MORE, PAINT = 0x5a, MOST_NUMBER = 16 };
 
-static size_t answers[MOST_NUMBER + 1];
+static size_t answers[2][MOST_NUMBER + 1]; // of lines and joint stages, of passes
+
+static bool is_of_passes(enum shape s) { return s >= TWO_PASS; }
 
 static void print_answer(struct answer a)
 {
@@ -18,12 +20,13 @@ static void print_answer(struct answer a)
 static void agree(int way, struct recipe r, struct answer a, struct answer b, bool equal)
 {
 	if (a.number == b.number && a.side == b.side && a.place == b.place && a.element == b.element && equal) {
-		answers[a.number]++;
+		answers[is_of_passes(r.shape)][a.number]++;
 		return;
 	}
-	printf("%s of order %d", way == INVERSE ? "inverse" : "forward", r.col->at[0]);
-	if (r.row)
-		printf(" by %d", r.row->at[0]);
+	static const char *const shapes[SHAPES] = {"line", "joint", "two-pass", "column pass", "row pass"};
+	printf("%s %s of order %d", shapes[r.shape], way == INVERSE ? "inverse" : "forward", r.col->at[0]);
+	if (r.shape != LINE)
+		printf(" and %u", r.row ? (uint32_t)r.row->at[0] : r.other);
 	printf(", rule %u", r.rule);
 	printf(": the library answers ");
 	print_answer(a);
@@ -73,6 +76,12 @@ static int32_t some_order(void)
 {
 	static const int32_t own_code[] = {3, 4, 8, 16};
 	return once_in(2) ? own_code[between(0, 3)] : between(1, ORDER);
+}
+
+static uint32_t no_order(void)
+{
+	static const uint32_t none[] = {0, ORDER + 1, 256, 65536 + 4, INT32_MAX, UINT32_MAX};
+	return none[between(0, 5)];
 }
 
 static void some_kinds(char kinds[COUNT + 1])
@@ -136,45 +145,58 @@ static void agree_on_runs(struct recipe r, size_t size)
 	for (int way = FORWARD; way <= INVERSE; way++) {
 		for (size_t k = 0; k < 4; k++)
 			agree_on_block(way, r, x + k * size, some_length(size), y, some_length(size));
-		agree_on_strip(way, r, x, some_length(many * size), y, some_length(many * size), bytes, some_length(many));
+		if (has_strips(r.shape))
+			agree_on_strip(way, r, x, some_length(many * size), y, some_length(many * size), bytes, some_length(many));
 	}
 }
 
 // A recipe, then the same with a fault.
-static void agree_on_recipe(struct sheet *col, struct sheet *row)
+static void agree_on_recipe(enum shape shape, struct sheet *col, struct sheet *row)
 {
-	struct recipe r = {some_rule(), col, row};
+	struct recipe r = {shape, some_rule(), col, has_two_sheets(shape) ? row : NULL, (uint32_t)some_order()};
 	size_t size = size_of(r);
 	agree_on_runs(r, size);
-	spoil(row && once_in(2) ? row : col);
+	if (shape >= COLUMN_PASS && once_in(4))
+		r.other = no_order();
+	if (!is_of_passes(shape) || once_in(2))
+		spoil(r.row && once_in(2) ? row : col);
 	r.rule = some_rule();
 	agree_on_runs(r, size);
 }
 
-// The numbers by which a run may be refused.
-static bool is_of_runs(size_t number) { return number <= 12 || number == 16; }
+// The numbers by which a run may be refused. Sheets of passes need not match.
+static bool is_of_runs(size_t number, bool passes) { return number <= 11 || number == 16 || (number == 12 && !passes); }
+
+static void print_answers(bool passes)
+{
+	printf("%s: %zu accepted, and refused, by number,\n", passes ? "Passes" : "Lines and joint stages", answers[passes][0]);
+	for (size_t k = 1; k <= MOST_NUMBER; k++) {
+		if (!is_of_runs(k, passes))
+			continue;
+		printf("%s%zu: %zu", k > 1 ? ", " : "", k, answers[passes][k]);
+		if (!answers[passes][k]) {
+			printf(": the cases leave that number out\n");
+			exit(1);
+		}
+	}
+	printf("\n");
+}
 
 void agree_on_many(int cases)
 {
 	for (int k = 0; k < cases; k++) {
 		static struct sheet col, row;
+		enum shape shape = (enum shape)(k % SHAPES);
 		char kinds[COUNT + 1];
 		some_kinds(kinds);
 		col = some_sheet(kinds);
-		if (once_in(20))
+		if (shape == TWO_PASS || once_in(20))
 			some_kinds(kinds);
 		row = some_sheet(kinds);
-		agree_on_recipe(&col, k % 2 ? &row : NULL);
+		agree_on_recipe(shape, &col, &row);
 	}
-	printf("Answers, outputs and bytes of both are equal: %zu accepted, and refused, by number,\n", answers[0]);
-	for (size_t k = 1; k <= MOST_NUMBER; k++) {
-		if (!is_of_runs(k))
-			continue;
-		printf("%s%zu: %zu", k > 1 ? ", " : "", k, answers[k]);
-		if (!answers[k]) {
-			printf(": the cases leave that number out\n");
-			exit(1);
-		}
-	}
-	printf("\n\n");
+	printf("Answers, outputs and bytes of both are equal.\n");
+	print_answers(false);
+	print_answers(true);
+	printf("\n");
 }

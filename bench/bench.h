@@ -1,5 +1,5 @@
 // What main.c times and stack.c measures: the calls of the library (crates/bench), and their twins in the best plain C for the
-// same answers (line.c, rectangle.c, and for refusals check.c and element.c).
+// same answers (line.c, rectangle.c, pass.c, and for refusals check.c and element.c).
 #ifndef BENCH_H
 #define BENCH_H
 #include <stddef.h>
@@ -34,6 +34,16 @@ typedef struct answer block_call(uint32_t rule, const int32_t *col, size_t cn, c
 block_call bench_rectangle_forward, bench_rectangle_inverse, twin_rectangle_forward, twin_rectangle_inverse;
 struct answer bench_rectangle_allowance(uint32_t rule, const int32_t *col, size_t cn, const int32_t *row, size_t rn, int32_t *y,
 					size_t yn);
+
+// Two passes: the column sheet down each column, the row sheet along each row. A pass alone: the other order in place of the
+// other sheet.
+block_call bench_two_pass_forward, bench_two_pass_inverse, twin_two_pass_forward, twin_two_pass_inverse;
+struct answer bench_two_pass_allowance(uint32_t rule, const int32_t *col, size_t cn, const int32_t *row, size_t rn, int32_t *y,
+				       size_t yn);
+typedef struct answer pass_call(uint32_t rule, const int32_t *s, size_t sn, uint32_t other, const int32_t *x, size_t xn, int32_t *y,
+				size_t yn);
+pass_call bench_column_forward, bench_column_inverse, twin_column_forward, twin_column_inverse;
+pass_call bench_row_forward, bench_row_inverse, twin_row_forward, twin_row_inverse;
 
 // Strips: blocks end to end, and a byte for each.
 typedef struct answer line_strip(uint32_t rule, const int32_t *s, size_t sn, const int32_t *x, size_t xn, int32_t *y, size_t yn,

@@ -6,7 +6,7 @@ machine=$(uname -m)
 kit=${RATTLE_HOME:-$(dirname "$(dirname "$(readlink -f "$(command -v rt)")")")}
 tools=$kit/on/$machine/toolchain lib=$kit/on/$machine/toolchain/lib
 room=$PWD/target/bench x86=(--target=x86_64-unknown-linux-gnu -march=x86-64)
-twins=(check element line rectangle)
+twins=(check element line rectangle pass)
 mkdir -p "$room"
 
 archive() { # KIT: target/staticlib/libbench.a, made over that kit

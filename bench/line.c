@@ -198,7 +198,7 @@ INLINE struct answer run_one(uint32_t rule, struct call c, bool back)
 {
 	struct answer a = run_by_rule(rule, c, back, false);
 	if (a.number == 11)
-		a.element = twin_element(rule, c.s, c.sn, NULL, 0, c.x, back);
+		a.element = twin_pass_element(rule, c.s, c.sn, NULL, 0, c.xn, 1, c.x, back);
 	return a;
 }
 

@@ -8,9 +8,6 @@
 #include "twin.h"
 #include <string.h>
 
-// The compiler by itself does not unroll the loop over a row of sixteen, since its inner loops have different lengths.
-#define UNROLL _Pragma("clang loop unroll(full)")
-
 struct stage {
 	uint32_t kind;
 	size_t r, q; // the single rows
@@ -18,25 +15,6 @@ struct stage {
 };
 
 // ---- lines of products
-
-INLINE void add_row(int64_t *v, int32_t a, const int32_t *x, size_t n)
-{
-	for (size_t k = 0; k < n; k++)
-		v[k] += (int64_t)a * x[k];
-}
-
-INLINE void add_rows(int64_t *v, const int32_t *a, size_t many, const int32_t *x, size_t n)
-{
-	for (size_t l = 0; l < many; l++)
-		add_row(v, a[l], x + l * n, n);
-}
-
-// The own terms of a row of sums.
-INLINE void start_row(int64_t *v, int32_t sign, const int32_t *x, size_t n)
-{
-	for (size_t k = 0; k < n; k++)
-		v[k] = (int64_t)(4096 * sign) * x[k];
-}
 
 INLINE int64_t wide_sum(const int32_t *b, const int64_t *v, size_t n)
 {
@@ -143,31 +121,6 @@ INLINE uint32_t upper_back(uint32_t rule, const struct stage *t, size_t n1, size
 }
 
 // ---- single rows, in place
-
-// The entries of row q with a number in the place that they leave out.
-INLINE void fill_row(int32_t *w, const int32_t *b, size_t q, int32_t own, size_t n)
-{
-	for (size_t k = 0; k < q; k++)
-		w[k] = b[k];
-	w[q] = own;
-	for (size_t k = q + 1; k < n; k++)
-		w[k] = b[k - 1];
-}
-
-// The row factor's signs as 0 and -1. They lie aside: for all that the compiler knows, a write to the block changes the sheet.
-INLINE void read_signs(int32_t *m, const int32_t *across, size_t n)
-{
-	for (size_t k = 0; k < n; k++)
-		m[k] = across[k] >> 31;
-}
-
-INLINE void sign_row(int32_t *x, const int32_t *m, int32_t sign, size_t n)
-{
-	for (size_t k = 0; k < n; k++) {
-		int32_t s = m[k] ^ (sign >> 31);
-		x[k] = (x[k] ^ s) - s;
-	}
-}
 
 // Column q of a row that is not r has a sum over its row alone. The row's numbers enter the sums of row r as they were.
 INLINE uint32_t single(uint32_t rule, const struct stage *t, size_t n1, size_t n2, int32_t *x)
@@ -276,18 +229,6 @@ INLINE struct answer run_block(uint32_t rule, const struct stage *t, size_t many
 	if (v != y)
 		memcpy(y, v, size * sizeof *y);
 	return refused(0, 0, 0);
-}
-
-static bool decode_by_order(const int32_t *s, size_t len, struct step *t)
-{
-	size_t n = order_of(s, len);
-	switch (n) {
-	case 0: return false;
-	case 4: return decode(s, len, 4, t);
-	case 8: return decode(s, len, 8, t);
-	case 16: return decode(s, len, 16, t);
-	default: return decode(s, len, n, t);
-	}
 }
 
 // 1 to 9 for both sheets, and 12; the stages.

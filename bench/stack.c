@@ -13,7 +13,8 @@ struct slice {
 	size_t len;
 };
 
-// What a call is given, word by word: where its answer goes, if it gives one; a rule, if it takes one; at most five slices.
+// What a call is given, word by word: where its answer goes, if it gives one; a rule, if it takes one; at most five slices; of a
+// pass alone the other order, a word after the sheet.
 enum { SLICES = 5, WORDS = 2 + 2 * SLICES };
 
 typedef void code(void);
@@ -108,8 +109,11 @@ enum {
 	FIRST_PRINTING,
 	LINE,		      // forward, inverse, allowance, strip forward, strip inverse
 	BLOCK = LINE + 5,     // the same of a rectangle
-	BY_RULES = BLOCK + 5, // by rule 1: forward and inverse of a line, of a rectangle; then by rule 2
-	TEXT = BY_RULES + 8,
+	TWO_PASS = BLOCK + 5, // forward, inverse, allowance
+	COLUMN = TWO_PASS + 3, // forward, inverse
+	ROW = COLUMN + 2,
+	BY_RULES = ROW + 2, // by rule 1: forward and inverse of each shape; then by rule 2
+	TEXT = BY_RULES + 20,
 	CALLS
 };
 enum { FORWARD, INVERSE, ALLOWANCE, STRIP_FORWARD, STRIP_INVERSE };
@@ -139,26 +143,58 @@ static const struct call calls[CALLS] = {
 		CODE(twin_rectangle_strip_forward)},
 	[BLOCK + STRIP_INVERSE] = {"strip::joint_inverse", PAIR | LENGTH | RULE, CODE(bench_rectangle_strip_inverse),
 		CODE(twin_rectangle_strip_inverse)},
+	[TWO_PASS + FORWARD] = {"twopass::forward", SHEET | LENGTH | BOUND | RULE, CODE(bench_two_pass_forward),
+		CODE(twin_two_pass_forward)},
+	[TWO_PASS + INVERSE] = {"twopass::inverse", SHEET | LENGTH | BOUND | RULE, CODE(bench_two_pass_inverse),
+		CODE(twin_two_pass_inverse)},
+	[TWO_PASS + ALLOWANCE] = {"twopass::allowance", SHEET | LENGTH | ALLOW | RULE, CODE(bench_two_pass_allowance), NULL},
+	[COLUMN + FORWARD] = {"twopass::column_forward", SHEET | LENGTH | BOUND | RULE, CODE(bench_column_forward),
+		CODE(twin_column_forward)},
+	[COLUMN + INVERSE] = {"twopass::column_inverse", SHEET | LENGTH | BOUND | RULE, CODE(bench_column_inverse),
+		CODE(twin_column_inverse)},
+	[ROW + FORWARD] = {"twopass::row_forward", SHEET | LENGTH | BOUND | RULE, CODE(bench_row_forward), CODE(twin_row_forward)},
+	[ROW + INVERSE] = {"twopass::row_inverse", SHEET | LENGTH | BOUND | RULE, CODE(bench_row_inverse), CODE(twin_row_inverse)},
 	[BY_RULES] = {"line::forward, rule 1", SHEET | BOUND, CODE(bench_forward), CODE(twin_forward)},
 	[BY_RULES + 1] = {"line::inverse, rule 1", SHEET | BOUND, CODE(bench_inverse), CODE(twin_inverse)},
 	[BY_RULES + 2] = {"rectangle::forward, rule 1", PAIR | BOUND, CODE(bench_rectangle_forward), CODE(twin_rectangle_forward)},
 	[BY_RULES + 3] = {"rectangle::inverse, rule 1", PAIR | BOUND, CODE(bench_rectangle_inverse), CODE(twin_rectangle_inverse)},
-	[BY_RULES + 4] = {"line::forward, rule 2", SHEET | BOUND, CODE(bench_forward), CODE(twin_forward)},
-	[BY_RULES + 5] = {"line::inverse, rule 2", SHEET | BOUND, CODE(bench_inverse), CODE(twin_inverse)},
-	[BY_RULES + 6] = {"rectangle::forward, rule 2", PAIR | BOUND, CODE(bench_rectangle_forward), CODE(twin_rectangle_forward)},
-	[BY_RULES + 7] = {"rectangle::inverse, rule 2", PAIR | BOUND, CODE(bench_rectangle_inverse), CODE(twin_rectangle_inverse)},
+	[BY_RULES + 4] = {"twopass::forward, rule 1", SHEET | BOUND, CODE(bench_two_pass_forward), CODE(twin_two_pass_forward)},
+	[BY_RULES + 5] = {"twopass::inverse, rule 1", SHEET | BOUND, CODE(bench_two_pass_inverse), CODE(twin_two_pass_inverse)},
+	[BY_RULES + 6] = {"twopass::column_forward, rule 1", SHEET | BOUND, CODE(bench_column_forward), CODE(twin_column_forward)},
+	[BY_RULES + 7] = {"twopass::column_inverse, rule 1", SHEET | BOUND, CODE(bench_column_inverse), CODE(twin_column_inverse)},
+	[BY_RULES + 8] = {"twopass::row_forward, rule 1", SHEET | BOUND, CODE(bench_row_forward), CODE(twin_row_forward)},
+	[BY_RULES + 9] = {"twopass::row_inverse, rule 1", SHEET | BOUND, CODE(bench_row_inverse), CODE(twin_row_inverse)},
+	[BY_RULES + 10] = {"line::forward, rule 2", SHEET | BOUND, CODE(bench_forward), CODE(twin_forward)},
+	[BY_RULES + 11] = {"line::inverse, rule 2", SHEET | BOUND, CODE(bench_inverse), CODE(twin_inverse)},
+	[BY_RULES + 12] = {"rectangle::forward, rule 2", PAIR | BOUND, CODE(bench_rectangle_forward), CODE(twin_rectangle_forward)},
+	[BY_RULES + 13] = {"rectangle::inverse, rule 2", PAIR | BOUND, CODE(bench_rectangle_inverse), CODE(twin_rectangle_inverse)},
+	[BY_RULES + 14] = {"twopass::forward, rule 2", SHEET | BOUND, CODE(bench_two_pass_forward), CODE(twin_two_pass_forward)},
+	[BY_RULES + 15] = {"twopass::inverse, rule 2", SHEET | BOUND, CODE(bench_two_pass_inverse), CODE(twin_two_pass_inverse)},
+	[BY_RULES + 16] = {"twopass::column_forward, rule 2", SHEET | BOUND, CODE(bench_column_forward), CODE(twin_column_forward)},
+	[BY_RULES + 17] = {"twopass::column_inverse, rule 2", SHEET | BOUND, CODE(bench_column_inverse), CODE(twin_column_inverse)},
+	[BY_RULES + 18] = {"twopass::row_forward, rule 2", SHEET | BOUND, CODE(bench_row_forward), CODE(twin_row_forward)},
+	[BY_RULES + 19] = {"twopass::row_inverse, rule 2", SHEET | BOUND, CODE(bench_row_inverse), CODE(twin_row_inverse)},
 	[TEXT] = {"session::text_of", SHEET | LENGTH | BOUND | ALLOW | SPELT | ROOM, CODE(bench_text_of), NULL},
 };
 
 static struct {
 	size_t library, twin; // the deepest so far
 	uint32_t answers;
-	uint64_t stages; // those at which a number was beyond the bound
+	bool at_first, at_last; // whether a number was beyond the bound in what was given, at the last stage
 } seen[CALLS];
 
 static bool takes_rule(size_t which) { return which >= LINE && which < TEXT; }
 
+// The other order of a pass alone is a word after the rule and the sheet.
+static bool takes_order(size_t which)
+{
+	size_t shape = which < BY_RULES ? 0 : (which - BY_RULES) / 2 % 5;
+	return (which >= COLUMN && which < BY_RULES) || (takes_rule(which) && shape > 2);
+}
+
 static bool gives_length(size_t which) { return which == REST || which == TEXT; }
+
+static uint32_t other; // the other order, if a call takes one
 
 static struct result ask(size_t which, uint32_t rule, const struct slice a[SLICES])
 {
@@ -167,7 +203,12 @@ static struct result ask(size_t which, uint32_t rule, const struct slice a[SLICE
 		*w++ = (uint64_t)&answered;
 	if (takes_rule(which))
 		*w++ = rule;
-	memcpy(w, a, SLICES * sizeof *a);
+	if (takes_order(which)) {
+		memcpy(w, a, sizeof *a);
+		w[2] = other;
+		memcpy(w + 3, a + 1, (SLICES - 2) * sizeof *a);
+	} else
+		memcpy(w, a, SLICES * sizeof *a);
 	size_t reach = which == TEXT ? DEEPEST : DEEPEST / 16; // the program keeps three long arrays
 	struct result r, s;
 	deepen(&seen[which].library, depth_of(calls[which].library, words, reach, &r));
@@ -176,12 +217,21 @@ static struct result ask(size_t which, uint32_t rule, const struct slice a[SLICE
 	return r;
 }
 
+static bool is_two_pass(size_t which)
+{
+	return (which >= TWO_PASS && which < COLUMN) || (which >= BY_RULES && which < TEXT && (which - BY_RULES) / 2 % 5 == 2);
+}
+
+static uint64_t last_stage(size_t which) { return is_two_pass(which) ? 2 * COUNT : COUNT; }
+
 static void ask_answer(size_t which, uint32_t rule, const struct slice a[SLICES])
 {
 	struct answer r = ask(which, rule, a).answer;
 	seen[which].answers |= 1u << r.number;
-	if (r.number == 11)
-		seen[which].stages |= 1ull << r.place;
+	if (r.number == 11) {
+		seen[which].at_first |= r.place == 0;
+		seen[which].at_last |= r.place == last_stage(which);
+	}
 }
 
 #define ASK(which, ...) ask_answer(which, 0, (struct slice[SLICES]){__VA_ARGS__})
@@ -225,11 +275,13 @@ static void make_list(void)
 			add(made(orders[n], kinds[k], 16));
 	add(built_in());
 	add(made(ORDER, all, ENTRY)); // allowances pass the bound
+	add(made(ORDER, ends, 0)); // as one of two passes, it leaves the last stage to the other
 	for (size_t back = 0; back < 2; back++) { // numbers at the bound stay there until the last stage
 		struct sheet s = made(ORDER, ends, 0);
 		s.at[back ? 3 + ORDER : s.len - 1] = ENTRY;
 		add(s);
 	}
+	add(made(ORDER, ends, 0));
 	add((struct sheet){0});
 	for (int number = 1; number <= 9; number++)
 		add(with_fault(number));
@@ -276,7 +328,7 @@ static void ask_blocks(size_t which, uint32_t rule, struct slice *a, size_t shee
 	}
 }
 
-static void ask_single(size_t shape, struct slice *a, size_t sheets, size_t size)
+static void ask_ways(size_t shape, struct slice *a, size_t sheets, size_t size)
 {
 	struct slice *from = a + sheets, *to = from + 1;
 	for (size_t way = FORWARD; way <= INVERSE; way++) {
@@ -287,9 +339,13 @@ static void ask_single(size_t shape, struct slice *a, size_t sheets, size_t size
 		to->len++;
 		ask_answer(shape + way, 0, a);
 	}
-	*from = (struct slice){y, size};
+}
+
+static void ask_allowance(size_t shape, struct slice *a, size_t sheets, size_t size)
+{
+	a[sheets] = (struct slice){y, size};
 	ask_answer(shape + ALLOWANCE, 0, a);
-	from->len++;
+	a[sheets].len++;
 	ask_answer(shape + ALLOWANCE, 0, a);
 }
 
@@ -310,35 +366,64 @@ static void ask_strips(size_t shape, struct slice *a, size_t sheets, size_t size
 	}
 }
 
-// By rules 1 and 2; then by a number that is none.
-static void ask_by_rules(size_t shape, struct slice *a, size_t sheets, size_t size)
+// By rules 1 and 2; then by a number that is none. Which of the five shapes it is, and the last of its calls.
+static void ask_by_rules(size_t shape, size_t number, size_t last, struct slice *a, size_t sheets, size_t size)
 {
 	for (uint32_t rule = 1; rule < RULES; rule++)
 		for (size_t way = FORWARD; way <= INVERSE; way++)
-			ask_blocks(BY_RULES + 4 * (rule - 1) + (shape == BLOCK ? 2 : 0) + way, rule, a, sheets, size);
-	for (size_t task = FORWARD; task <= STRIP_INVERSE; task++)
+			ask_blocks(BY_RULES + 10 * (rule - 1) + 2 * number + way, rule, a, sheets, size);
+	for (size_t task = FORWARD; task <= last; task++)
 		ask_answer(shape + task, RULES, a);
 }
 
-static void ask_runs(size_t shape, struct slice *a, size_t sheets, size_t size)
+static void ask_runs(size_t shape, size_t number, struct slice *a, size_t sheets, size_t size)
 {
 	fill(size);
-	ask_single(shape, a, sheets, size);
+	ask_ways(shape, a, sheets, size);
+	ask_allowance(shape, a, sheets, size);
 	ask_strips(shape, a, sheets, size);
-	ask_by_rules(shape, a, sheets, size);
+	ask_by_rules(shape, number, STRIP_INVERSE, a, sheets, size);
+}
+
+static void ask_two_pass(struct slice *a, size_t size)
+{
+	fill(size);
+	ask_ways(TWO_PASS, a, 2, size);
+	ask_allowance(TWO_PASS, a, 2, size);
+	ask_by_rules(TWO_PASS, 2, ALLOWANCE, a, 2, size);
+}
+
+// Over 16 lines, over 4, over one; then over none, and over too many.
+static void ask_passes(const struct sheet *s, size_t n)
+{
+	static const uint32_t orders[] = {ORDER, 4, 1, 0, ORDER + 1};
+	for (size_t k = 0; k < sizeof orders / sizeof *orders; k++) {
+		other = orders[k];
+		size_t size = n * (other && other <= ORDER ? other : 1);
+		for (size_t way = 0; way < 2; way++) {
+			struct slice a[SLICES] = {of(s)};
+			size_t shape = way ? ROW : COLUMN;
+			fill(size);
+			ask_ways(shape, a, 1, size);
+			ask_by_rules(shape, 3 + way, INVERSE, a, 1, size);
+		}
+	}
 }
 
 static void ask_sheet(const struct sheet *s)
 {
 	ASK(CHECK, of(s));
-	ask_runs(LINE, (struct slice[SLICES]){of(s)}, 1, order_of(s));
+	ask_runs(LINE, 0, (struct slice[SLICES]){of(s)}, 1, order_of(s));
+	ask_passes(s, order_of(s));
 }
 
 static void ask_pair(const struct sheet *col, const struct sheet *row)
 {
 	ASK(CHECK_PAIR, of(col), of(row));
 	ask(REST, 0, (struct slice[SLICES]){of(col), of(row)});
-	ask_runs(BLOCK, (struct slice[SLICES]){of(col), of(row)}, 2, order_of(col) * order_of(row));
+	size_t size = order_of(col) * order_of(row);
+	ask_runs(BLOCK, 1, (struct slice[SLICES]){of(col), of(row)}, 2, size);
+	ask_two_pass((struct slice[SLICES]){of(col), of(row)}, size);
 }
 
 // ---- recipe bytes, and what the program prints
@@ -427,12 +512,14 @@ static void ask_tables(void)
 static void print(size_t which)
 {
 	const struct call *c = &calls[which];
-	uint64_t stages = seen[which].stages, ends = 1 | 1ull << COUNT; // what was given, and the last stage
-	if (seen[which].answers != c->answers || (stages && (stages & ends) != ends)) {
-		printf("%s: the cases bring about answers %x, stages %llx\n", c->name, seen[which].answers, (unsigned long long)stages);
+	bool first = seen[which].at_first, last = seen[which].at_last;
+	bool ends = which == TEXT || (first == last && first == !!(c->answers & BOUND)); // a text's stages are not looked at
+	if (seen[which].answers != c->answers || !ends) {
+		printf("%s: the cases bring about answers %x, 11 at the first stage %d, at the last %d\n", c->name, seen[which].answers,
+		       first, last);
 		exit(1);
 	}
-	printf("%-28s %8zu", c->name, seen[which].library);
+	printf("%-32s %8zu", c->name, seen[which].library);
 	if (c->twin)
 		printf(" %8zu", seen[which].twin);
 	printf("\n");
@@ -450,7 +537,7 @@ int main(void)
 	}
 	ask_misspelt();
 	ask_tables();
-	printf("%-28s %8s %8s\n", "deepest stack, bytes", "library", "C");
+	printf("%-32s %8s %8s\n", "deepest stack, bytes", "library", "C");
 	for (size_t k = 0; k < CALLS; k++)
 		print(k);
 	return 0;

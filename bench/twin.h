@@ -1,11 +1,14 @@
-// What line.c and rectangle.c share: a sheet checked and decoded in one pass into a table of steps; rounding; the bound. What
-// takes an order or a rule is compiled into its caller: where that gives a literal, loops have fixed lengths, numbers fixed
-// places, and a rounding is that rule's alone.
+// What line.c, rectangle.c and pass.c share: a sheet checked and decoded in one pass into a table of steps; rounding; the bound;
+// rows of sums. What takes an order or a rule is compiled into its caller: where that gives a literal, loops have fixed lengths,
+// numbers fixed places, and a rounding is that rule's alone.
 #ifndef TWIN_H
 #define TWIN_H
 #include "bench.h"
 
 #define INLINE static inline __attribute__((always_inline))
+
+// The compiler by itself does not unroll the loop over a row of sixteen, since its inner loops have different lengths.
+#define UNROLL _Pragma("clang loop unroll(full)")
 
 INLINE struct answer refused(uint32_t number, uint32_t side, uint64_t place) { return (struct answer){number, side, place, 0}; }
 
@@ -86,10 +89,26 @@ INLINE bool decode(const int32_t *s, size_t len, size_t n, struct step t[COUNT])
 	return i == len;
 }
 
+// The same, with code for the orders of a rectangle that has code of its own.
+static inline bool decode_by_order(const int32_t *s, size_t len, struct step *t)
+{
+	size_t n = order_of(s, len);
+	switch (n) {
+	case 0: return false;
+	case 4: return decode(s, len, 4, t);
+	case 8: return decode(s, len, 8, t);
+	case 16: return decode(s, len, 16, t);
+	default: return decode(s, len, n, t);
+	}
+}
+
 struct answer twin_check(const int32_t *s, size_t len, uint32_t side); // 1 to 9, from the left, the first fault
 
-// Which number of x a run that answers 11 names; no row sheet: a line.
+// Which number of x, n1 rows by n2, a run that answers 11 names: of a joint run; of a column pass and then a row pass, or back.
+// No sheet, no pass. A line is a column pass of one column.
 uint64_t twin_element(uint32_t rule, const int32_t *col, size_t cn, const int32_t *row, size_t rn, const int32_t *x, bool back);
+uint64_t twin_pass_element(uint32_t rule, const int32_t *col, size_t cn, const int32_t *row, size_t rn, size_t n1, size_t n2,
+			   const int32_t *x, bool back);
 
 // 10, of a block of n numbers and of a strip of such blocks.
 INLINE struct answer lengths(size_t n, bool strip, size_t xn, size_t yn, size_t bn)
@@ -142,6 +161,54 @@ INLINE int64_t sum_of(const int32_t *a, const int32_t *x, size_t n)
 	for (size_t k = 0; k < n; k++)
 		sum += (int64_t)a[k] * x[k];
 	return sum;
+}
+
+// ---- rows of sums
+
+INLINE void add_row(int64_t *v, int32_t a, const int32_t *x, size_t n)
+{
+	for (size_t k = 0; k < n; k++)
+		v[k] += (int64_t)a * x[k];
+}
+
+INLINE void add_rows(int64_t *v, const int32_t *a, size_t many, const int32_t *x, size_t n)
+{
+	for (size_t l = 0; l < many; l++)
+		add_row(v, a[l], x + l * n, n);
+}
+
+// The own terms of a row of sums.
+INLINE void start_row(int64_t *v, int32_t sign, const int32_t *x, size_t n)
+{
+	for (size_t k = 0; k < n; k++)
+		v[k] = (int64_t)(4096 * sign) * x[k];
+}
+
+// ---- single rows
+
+// The entries of row q with a number in the place that they leave out.
+INLINE void fill_row(int32_t *w, const int32_t *b, size_t q, int32_t own, size_t n)
+{
+	for (size_t k = 0; k < q; k++)
+		w[k] = b[k];
+	w[q] = own;
+	for (size_t k = q + 1; k < n; k++)
+		w[k] = b[k - 1];
+}
+
+// A factor's signs as 0 and -1. They lie aside: for all that the compiler knows, a write to the block changes the sheet.
+INLINE void read_signs(int32_t *m, const int32_t *signs, size_t n)
+{
+	for (size_t k = 0; k < n; k++)
+		m[k] = signs[k] >> 31;
+}
+
+INLINE void sign_row(int32_t *x, const int32_t *m, int32_t sign, size_t n)
+{
+	for (size_t k = 0; k < n; k++) {
+		int32_t s = m[k] ^ (sign >> 31);
+		x[k] = (x[k] ^ s) - s;
+	}
 }
 
 #endif
