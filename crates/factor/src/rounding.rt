@@ -27,7 +27,7 @@ fn odd(q: i64) -> i64
 
 // What is added to a sum before the floor is taken: a half; nothing; or a half, and less by 1 where the floor q of the sum is
 // even, so that halves stay with it.
-fn lift(down: bool, even: bool, half: i64, q: i64) -> i64
+pub fn lift(down: bool, even: bool, half: i64, q: i64) -> i64
     requires { ⌜ (pos 1 ≤ℤ half) × Within unit² half × Within mostRoundable q ⌝ }
     ensures { λ r. ⌜ r ≡ pos (liftBy down even (natAbs half) q) ⌝ }
 {

@@ -1,4 +1,5 @@
 pub mod Lanes
+pub mod Parts
 pub mod LaneSteps
 pub mod LaneLaws
 pub mod RowLaws

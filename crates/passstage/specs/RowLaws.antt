@@ -1,16 +1,21 @@
 -- ROWS OF LINES SIDE BY SIDE: the sums of a row for all lines, a row without entries, and all rows, turn after turn.
-use mathlib.Core.Bool.{Bool, true, false}
+use mathlib.Core.Bool.{Bool, true, false, _&&_}
 use mathlib.Core.List.{List}
 use mathlib.Core.Path.{_≡_, refl, sym, ap, ap₂, _∙_}
 use Prim.Native.Nat.{ℕ, zero, suc, _+_, _-_, _*_, _≤_, _<_}
+use borrow.Author.Tests.{leb-true}
+use native.Mathlib.Decide.{ℕ-discrete}
 use native.Mathlib.Numerals.{add-one}
 use native.Mathlib.Omega.{arith}
-use lib.IntN.{ℤ, pos, _+ℤ_, _-ℤ_, _*ℤ_, +ℤ-idl}
+use lib.Dec.{leb}
+use lib.IntN.{ℤ, pos, natAbs, _+ℤ_, _-ℤ_, _*ℤ_, +ℤ-idl, +ℤ-idr}
 use lib.ListN.{length, set, replicate}
 use lib.Seq.{set-getD}
-use Rattle.whole.specs.Diff.{lia}
+use lib.Signed.{ltZ}
+use Rattle.whole.specs.Diff.{lia, Within}
+use Rattle.whole.specs.Laws.{distrib}
 use Rattle.whole.specs.Machine.{within-sign}
-use Rattle.whole.specs.Stated.{sum}
+use Rattle.whole.specs.Stated.{sum, Sign}
 use Rattle.whole.specs.Sum.{sum-cong}
 use Rattle.laws.specs.Tests.{apart}
 use Rattle.rules.specs.declared.Rule.{Rule}
@@ -22,16 +27,18 @@ use Rattle.rules.specs.Laws.Rounding.{rounds-nothing}
 use Rattle.factor.specs.declared.Layout.{Layout}
 use Rattle.factor.specs.declared.Row.{Row}
 use Rattle.factor.specs.Layouts.{rowOf, along}
+use Rattle.factor.specs.Rounding.{sign-below, sign-above}
 use Rattle.factor.specs.SumBounds.{Bounded, RowIn, bounded-le, beyond-there}
 use Rattle.factor.specs.LayoutInSheet.{InSheet}
 use Rattle.factor.specs.InPlace.{inPlace, in-place-other, in-place-stays}
 use Rattle.factor.specs.MovedInPlace.{scattered, scattered-other, scattered-same, length-scattered}
 use Rattle.factor.specs.UndoingOrder.{undoing-permutes, undoing-reversed, Unseen, row-blind}
-use Rattle.joint.specs.Sums.{Adding, added, rowsSum, nothing, zero-at, rows-small, added-small, added-twice}
-use Rattle.joint.specs.Sums.{adding-all-small, side-adding, above-side, below-side}
+use Rattle.joint.specs.Sums.{nothing, zero-at}
 use Rattle.joint.specs.RowsInPlace.{plain, steps-along, in-place-fill}
 use Rattle.linerun.specs.Steps.{roundedSum, appliedAt, undoneAt}
-use Rattle.linerun.specs.LineBounds.{row-of-16, mostSum}
+use Rattle.linerun.specs.LineBounds.{row-of-16}
+use Rattle.passstage.specs.Parts.{whole, rest, whole-small, rest-small, mostPart, Raised, raised-small, partsSum, Parting}
+use Rattle.passstage.specs.Parts.{zeros, from-nothing, parts-small, joined, parts-sum, mostParts}
 use Rattle.passstage.specs.Lanes.{lane}
 use Rattle.passstage.specs.LaneSteps.{madeBy, stepAt, turnOf, afterTurns, rowSet, RowGiven, Far, RowMade}
 use Rattle.passstage.specs.LaneSteps.{LinesMade}
@@ -44,13 +51,24 @@ unfolding madeBy stepAt appliedAt undoneAt
 step-made true rule s f u m = refl
 step-made false rule s f u m = refl
 
+-- by the test of its sign
+pub made-below : (back : Bool) {d : ℤ} (x q : ℤ) → Sign d → ltZ d (pos 0) ≡ true → q -ℤ x ≡ madeBy back d x q
+unfolding madeBy
+made-below true x q s t = rw (sign-below (x -ℤ q) s t) (simp lia (omega arith))
+made-below false x q s t = rw (sign-below x s t) (simp lia (omega arith))
+
+pub made-back : {d : ℤ} (x q : ℤ) → Sign d → ltZ d (pos 0) ≡ false → x -ℤ q ≡ madeBy true d x q
+unfolding madeBy
+made-back x q s t = sym (sign-above (x -ℤ q) s t)
+
+pub made-forth : {d : ℤ} (x q : ℤ) → Sign d → ltZ d (pos 0) ≡ false → x +ℤ q ≡ madeBy false d x q
+unfolding madeBy
+made-forth x q s t = rw (sign-above x s t)
+
 made-turned : (back : Bool) (d x : ℤ) → madeBy back d x (pos 0) ≡ d *ℤ x
 unfolding madeBy
 made-turned true d x = let e : x -ℤ pos 0 ≡ x = simp lia (omega arith) in rw e
-made-turned false d x = none (d *ℤ x)
-  where
-    none : (z : ℤ) → z +ℤ pos 0 ≡ z
-    none z = simp lia (omega arith)
+made-turned false d x = +ℤ-idr (d *ℤ x)
 
 -- ---- a row without entries
 along-none : (s : List ℤ) (r : Row) (m : ℕ) (u : List ℤ) → r .left + r .right ≡ 0 → along (at s) r m u ≡ pos 0
@@ -69,68 +87,85 @@ step-none back rule s f u m e =
     (sym (ap (R rule unit) (along-none s (rowOf f m) m u e) ∙ rounds-nothing rule unit (omega arith)))
     ∙ step-made back rule s f u m
 
--- ---- the sums of row m, for w lines
-module _ {s : List ℤ} {f : Layout} (h : InSheet s f) (m : ℕ) (l : m < f .order) {x : List ℤ} (q : Bounded bound x) (w : ℕ)
-    (wide : w ≤ mostOrder) where
+-- ---- the sums of row m
+regroup : (a b c d : ℤ) → (pos unit *ℤ (a +ℤ b)) +ℤ (c +ℤ d) ≡ ((pos unit *ℤ a) +ℤ c) +ℤ ((pos unit *ℤ b) +ℤ d)
+regroup a b c d = simp distrib (simp lia (omega arith))
+
+module _ {s : List ℤ} {f : Layout} (h : InSheet s f) (m : ℕ) (l : m < f .order) {x : List ℤ} (q : Bounded bound x) where
   abbrev r : Row
   r = rowOf f m
-
-  abbrev zeros : List ℤ
-  zeros = replicate mostOrder (pos 0)
 
   row : RowIn s mostOrder r m
   row = row-of-16 h m l
 
-  low : Bounded mostAllowance x
-  low = bounded-le (omega arith) q
+  pub left-parting : Parting s (rowOf f m .at) (rowOf f m .left) x 0 zeros
+  left-parting = record {
+    some = 0;
+    few = let a = row .left in let b = row .right in omega arith;
+    room = let a = row .room in omega arith;
+    places = λ j b. let d = row .left in let e = row .right in omega arith;
+    entries = λ j b. row .entries j (omega arith);
+    numbers = q;
+    small = nothing (2 * mostOrder);
+    long = refl;
+  }
 
-  most : mostOrder ≤ mostOrder
-  most = omega arith
+  -- after the entries on the left, of w lines
+  module _ {w : ℕ} {u : List ℤ} (a : Raised w (partsSum whole s (rowOf f m .at) (rowOf f m .left) x 0)
+      (partsSum rest s (rowOf f m .at) (rowOf f m .left) x 0) zeros u) where
+    left-small : Bounded (rowOf f m .left * mostPart) u
+    left-small =
+        bounded-le (omega arith)
+        (raised-small (nothing {B = 0} (2 * mostOrder)) (λ c. parts-small left-parting whole whole-small (r .left) (omega arith) c)
+        (λ c. parts-small left-parting rest (λ z _. rest-small z) (r .left) (omega arith) c) a)
 
-  pub left-adding : Adding s (rowOf f m .at) (rowOf f m .left) x 0 mostOrder w (replicate mostOrder (pos 0))
-  left-adding =
-      side-adding (above-side row most low) 0 w 0 (omega arith) (omega (arith, above-side row most low .few)) wide
-      (nothing mostOrder) refl
+    pub right-parting : Parting s (rowOf f m .at + rowOf f m .left) (rowOf f m .right) x ((m + 1) * mostOrder) u
+    right-parting = record {
+      some = r .left;
+      few = let a = row .left in let b = row .right in omega arith;
+      room = let a = row .room in omega arith;
+      places = λ j b. let d = row .right in omega arith;
+      entries = λ j b. let e : r .at + (r .left + j) ≡ r .at + r .left + j = omega arith in
+          rw e at (row .entries (r .left + j) (omega arith));
+      numbers = q;
+      small = left-small;
+      long = a .long;
+    }
 
-  pub right-adding : Adding s (rowOf f m .at + rowOf f m .left) (rowOf f m .right) x ((m + 1) * mostOrder) mostOrder w
-      (added w (rowsSum s (rowOf f m .at) (rowOf f m .left) x 0 mostOrder) (replicate mostOrder (pos 0)))
-  right-adding =
-      side-adding (below-side row most low) ((m + 1) * mostOrder) w (r .left) (omega arith)
-      (let a = row .left in let b = row .right in omega arith)
-      wide
-      (bounded-le (omega arith) (added-small w _ zeros 0 (r .left) wide (nothing mostOrder)
-      (λ c b. rows-small left-adding (r .left) (omega arith) c)))
-      (length-fill w _ zeros)
+    -- and after those on the right
+    module _ {v : List ℤ} (b : Raised w (partsSum whole s (rowOf f m .at + rowOf f m .left) (rowOf f m .right) x ((m + 1) * mostOrder))
+        (partsSum rest s (rowOf f m .at + rowOf f m .left) (rowOf f m .right) x ((m + 1) * mostOrder)) u v) where
+      pub sums-small : Bounded mostParts v
+      sums-small =
+          let e = row .left in let d = row .right in
+          bounded-le (omega arith)
+          (raised-small left-small (λ c. parts-small right-parting whole whole-small (r .right) (omega arith) c)
+          (λ c. parts-small right-parting rest (λ z _. rest-small z) (r .right) (omega arith) c) b)
 
-  -- both of them
-  abbrev pub rowSums : List ℤ
-  rowSums =
-      added w (rowsSum s (rowOf f m .at + rowOf f m .left) (rowOf f m .right) x ((m + 1) * mostOrder) mostOrder)
-      (added w (rowsSum s (rowOf f m .at) (rowOf f m .left) x 0 mostOrder) (replicate mostOrder (pos 0)))
+      pub sums-along : (c : ℕ) → c < w → w ≤ mostOrder → joined v c ≡ along (at s) (rowOf f m) m (lane c x)
+      unfolding along
+      sums-along c d wide =
+          ap₂ (λ (y z : ℤ). (pos unit *ℤ y) +ℤ z)
+          (b .wholes c d ∙ ap (λ (z : ℤ). z +ℤ right whole) (from-nothing (a .wholes c d) (zero-at (2 * mostOrder) c)))
+          (b .rests c d ∙ ap (λ (z : ℤ). z +ℤ right rest) (from-nothing (a .rests c d) (zero-at (2 * mostOrder) (mostOrder + c))))
+          ∙ regroup (left whole) (right whole) (left rest) (right rest)
+          ∙ ap₂ _+ℤ_
+          (parts-sum s (r .at) (r .left) x 0 c
+          ∙ sum-cong (r .left) _ _ (λ j g.
+          let e : 0 + j * mostOrder + c ≡ c + j * mostOrder = omega arith in
+          ap (λ (z : ℤ). at s (r .at + j) *ℤ z)
+          (ap (at x) e ∙ sym (lane-at c x j (let k = row .left in let n = row .right in omega arith)))))
+          (parts-sum s (r .at + r .left) (r .right) x ((m + 1) * mostOrder) c
+          ∙ sum-cong (r .right) _ _ (λ j g.
+          let e : (m + 1) * mostOrder + j * mostOrder + c ≡ c + (suc m + j) * mostOrder = omega arith in
+          ap (λ (z : ℤ). at s (r .at + r .left + j) *ℤ z)
+          (ap (at x) e ∙ sym (lane-at c x (suc m + j) (let k = row .right in omega arith)))))
+        where
+          left : (ℤ → ℤ) → ℤ
+          left part = partsSum part s (r .at) (r .left) x 0 c
 
-  pub sums-small : Bounded mostSum rowSums
-  sums-small = bounded-le (omega arith) (adding-all-small right-adding)
-
-  sums-along : (c : ℕ) → c < w → at rowSums c ≡ along (at s) (rowOf f m) m (lane c x)
-  unfolding rowsSum along
-  sums-along c b =
-      ap (λ (v : List ℤ). at v c) (added-twice w _ _ zeros wide) ∙ fill-at w _ zeros c b wide
-      ∙ rw (zero-at mostOrder c) (+ℤ-idl _)
-      ∙ ap₂ _+ℤ_
-      (sum-cong (r .left) _ _ (λ j d.
-      let e : 0 + j * mostOrder + c ≡ c + j * mostOrder = omega arith in
-      ap (λ (z : ℤ). at s (r .at + j) *ℤ z)
-      (ap (at x) e ∙ sym (lane-at c x j (let a = row .left in let a′ = row .right in omega arith)))))
-      (sum-cong (r .right) _ _ (λ j d.
-      let e : (m + 1) * mostOrder + j * mostOrder + c ≡ c + (suc m + j) * mostOrder = omega arith in
-      ap (λ (z : ℤ). at s (r .at + r .left + j) *ℤ z)
-      (ap (at x) e ∙ sym (lane-at c x (suc m + j) (let a = row .right in omega arith)))))
-
-  -- as the code makes them, one after the other
-  pub sums-made : {a : Row} {u v : List ℤ} → a ≡ rowOf f m →
-      u ≡ added w (rowsSum s (a .at) (a .left) x 0 mostOrder) (replicate mostOrder (pos 0)) →
-      v ≡ added w (rowsSum s (a .at + a .left) (a .right) x ((m + 1) * mostOrder) mostOrder) u → v ≡ rowSums
-  sums-made e d g = g ∙ rw (d, e)
+          right : (ℤ → ℤ) → ℤ
+          right part = partsSum part s (r .at + r .left) (r .right) x ((m + 1) * mostOrder) c
 
 -- ---- how a row ends
 pub row-goes : {k w : ℕ} {z : ℕ → ℤ} {x y : List ℤ} → length x ≡ mostCells → y ≡ rowSet k w z x → Bounded bound y →
@@ -144,6 +179,42 @@ row-goes {k} {w} {z} {x} h e b = record {
 
 pub row-stops : {k w : ℕ} {z : ℕ → ℤ} {x y : List ℤ} → length y ≡ mostCells → Far w z → RowMade k w z x y false
 row-stops h f = record { goes = λ t. apart (sym t); small = λ t. apart (sym t); stops = λ _. f; long = h }
+
+-- whether the first w of the numbers z are all in bound
+pub record Judged (w : ℕ) (z : ℕ → ℤ) (ok : Bool) : Type 0 where
+  pub all : ok ≡ true → (l : ℕ) → l < w → Within bound (z l)
+  pub one : ok ≡ false → Far w z
+
+pub judged-none : {z : ℕ → ℤ} → Judged 0 z true
+judged-none = record { all = λ _ l b. absurd (omega arith); one = λ t. apart t }
+
+pub judged-next : {z : ℕ → ℤ} {a b : Bool} (w : ℕ) → Judged w z a → b ≡ leb (natAbs (z w)) bound → Judged (w + 1) z (a && b)
+judged-next {z} {a = true} {b = true} w j t = record {
+  all = λ _ l b. go l b (ℕ-discrete l w);
+  one = λ e. apart e;
+}
+  where
+    go : (l : ℕ) → l < w + 1 → Dec (l ≡ w) → Within bound (z l)
+    go l b (yes e) = rw e (record { within = leb-true (natAbs (z w)) bound (sym t) })
+    go l b (no e) = j .all refl l (omega arith)
+judged-next {a = true} {b = false} w j t = record {
+  all = λ e. apart (sym e);
+  one = λ _. record { line = w; below = omega arith; far = sym t };
+}
+judged-next {a = false} {b} w j t = record {
+  all = λ e. apart (sym e);
+  one = λ _. let f = j .one refl in record { line = f .line; below = let l = f .below in omega arith; far = f .far };
+}
+
+-- so it ends
+pub row-judged : {k w : ℕ} {z : ℕ → ℤ} {x y : List ℤ} {ok : Bool} → length x ≡ mostCells → Bounded bound x →
+    y ≡ rowSet k w z x → Judged w z ok → RowMade k w z x y ok
+row-judged {k} {w} {z} {x} h q e j = record {
+  goes = λ _. e;
+  small = λ t. rw e (scattered-bounded w (λ l. k + l) z q (j .all t));
+  stops = j .one;
+  long = ap length e ∙ length-scattered w (λ l. k + l) z x ∙ h;
+}
 
 -- the same numbers
 row-same : {k w : ℕ} {z v : ℕ → ℤ} {x y : List ℤ} {ok : Bool} → ((l : ℕ) → l < w → z l ≡ v l) → RowMade k w z x y ok →
@@ -202,16 +273,15 @@ module _ (back : Bool) (rule : Rule) {s : List ℤ} {f : Layout} (h : InSheet s 
       (rw e (scattered-bounded w _ _ q (λ i b. within-sign (h .sign m l) (q .small (m * mostOrder + i))))))
 
   -- by the sums
-  pub row-summed : {v y : List ℤ} {ok : Bool} → v ≡ rowSums h m l q w wide →
-      RowMade (m * mostOrder) w (λ i. madeBy back (at s (f .signs + m)) (at x (m * mostOrder + i)) (R rule unit (at v i))) x y
-      ok →
+  pub row-summed : (v : List ℤ) {y : List ℤ} {ok : Bool} → ((i : ℕ) → i < w → joined v i ≡ along (at s) (rowOf f m) m (lane i x)) →
+      RowMade (m * mostOrder) w (λ i. madeBy back (at s (f .signs + m)) (at x (m * mostOrder + i)) (R rule unit (joined v i))) x
+      y ok →
       RowMade (m * mostOrder) w (λ i. stepAt back rule s f (lane i x) m) x y ok
   unfolding roundedSum
-  row-summed {v} e g =
+  row-summed v e g =
       row-same
       (λ i b.
-      ap₂ (λ (z a : ℤ). madeBy back (at s (f .signs + m)) z (R rule unit a)) (place i)
-      (ap (λ (u : List ℤ). at u i) e ∙ sums-along h m l q w wide i b)
+      ap₂ (λ (z a : ℤ). madeBy back (at s (f .signs + m)) z (R rule unit a)) (place i) (e i b)
       ∙ step-made back rule s f (lane i x) m)
       g
 

@@ -8,8 +8,9 @@ ghost use Rattle.factor.specs.SumBounds.{Bounded};
 ghost use Rattle.factor.specs.LayoutInSheet.{InSheet};
 ghost use Rattle.passstage.specs.Lanes.{lane};
 ghost use Rattle.passstage.specs.LaneSteps.{stepAt, turnOf, afterTurns, RowMade, LinesMade};
-use crate::numbers::make_row;
+use crate::numbers::make_numbers;
 use crate::numbers::turn_row;
+use crate::sums::Parts;
 use crate::sums::add_columns;
 use factor::Layout;
 use factor::nth_undone;
@@ -55,10 +56,10 @@ fn take_row(
         turn_row(d, m * Block::LINE, w, x);
         return true;
     }
-    let mut v = [0i64; Block::LINE];
+    let mut v = [0i32; Parts::BOTH];
     add_columns(sheet, at, left, x, 0, w, &mut v);
     add_columns(sheet, at + left, right, x, (m + 1) * Block::LINE, w, &mut v);
-    make_row(back, down, even, d, m * Block::LINE, w, &v, x)
+    make_numbers(back, down, even, d, m * Block::LINE, w, &v, x)
 }
 
 // All rows. Answers whether every number is in bound.

@@ -1,43 +1,43 @@
--- A number, its sign and the rounded sum are small, and so is what is made of them.
-use mathlib.Core.Path.{_∙_}
+-- A sign by its test; a number and the rounded sum are small, and so is what is made of them.
 use mir.Facts.{toZ-ofZ}
-use mir.Syntax.{w64}
-use Rattle.whole.specs.Machine.{back, fits, within-+, within--, sign-within, within-sign}
-use Rattle.passstage.specs.LaneSteps.{madeBy}
+use mir.Syntax.{w32}
+use Rattle.whole.specs.Machine.{fits, within-+, within--, reads}
+use Rattle.passstage.specs.RowLaws.{made-below, made-back, made-forth}
 use Rattle.passstage.proofs.numbers.made.Statement.{statement}
 use Rattle.passstage.proofs.numbers.made.Tie as tie
 
-undone-requires : tie.Need-undone-requires
-undone-requires c κs =
+sub-result : tie.Need-sub-result
+sub-result c =
     let s = c .before in
-    let d = s .pre .0 in
-    let x = s .pre .1 in
-    let q = s .pre .2 in
-    rw (toZ-ofZ (s .fits .d), toZ-ofZ (s .fits .x), toZ-ofZ (s .fits .q))
-    (d, fits x tt, fits (within-- x q) tt, fits (within-sign d (within-- x q)) tt)
+    rw (toZ-ofZ (s .fits .q), toZ-ofZ (s .fits .x)) (fits (within-- (s .pre .2) (s .pre .1)) tt)
 
 returns : tie.Need-returns
-unfolding madeBy
 returns c =
-    let s = c .before .before in
-    back w64 _ (c .undone .ok) ∙ c .undone .ensures
-    ∙ rw (toZ-ofZ (s .fits .d), toZ-ofZ (s .fits .x), toZ-ofZ (s .fits .q), c .before .if1 .taken)
-
-applied-requires : tie.Need-applied-requires
-applied-requires c κs =
     let s = c .before in
-    let d = s .pre .0 in
-    let x = s .pre .1 in
-    let q = s .pre .2 in
-    rw (toZ-ofZ (s .fits .d), toZ-ofZ (s .fits .x), toZ-ofZ (s .fits .q))
-    (fits (sign-within d) tt, fits x tt, fits (within-sign d x) tt, fits (within-+ (within-sign d x) q) tt)
+    rw (toZ-ofZ (s .fits .q), toZ-ofZ (s .fits .x), reads w32 (within-- (s .pre .2) (s .pre .1)) tt)
+    (made-below (s .args .back) (s .args .x) (s .args .q) (s .pre .0) (rw (toZ-ofZ (s .fits .d)) at (c .if1 .taken)))
+
+sub-result-2 : tie.Need-sub-result-2
+sub-result-2 c =
+    let s = c .before .before in
+    rw (toZ-ofZ (s .fits .q), toZ-ofZ (s .fits .x)) (fits (within-- (s .pre .1) (s .pre .2)) tt)
 
 returns-2 : tie.Need-returns-2
-unfolding madeBy
 returns-2 c =
     let s = c .before .before in
-    back w64 _ (c .applied .ok) ∙ c .applied .ensures
-    ∙ rw (toZ-ofZ (s .fits .d), toZ-ofZ (s .fits .x), toZ-ofZ (s .fits .q), c .before .if1 .left)
+    rw (toZ-ofZ (s .fits .q), toZ-ofZ (s .fits .x), reads w32 (within-- (s .pre .1) (s .pre .2)) tt, c .if2 .taken)
+    (made-back (s .args .x) (s .args .q) (s .pre .0) (rw (toZ-ofZ (s .fits .d)) at (c .before .if1 .left)))
+
+add-result : tie.Need-add-result
+add-result c =
+    let s = c .before .before in
+    rw (toZ-ofZ (s .fits .q), toZ-ofZ (s .fits .x)) (fits (within-+ (s .pre .1) (s .pre .2)) tt)
+
+returns-3 : tie.Need-returns-3
+returns-3 c =
+    let s = c .before .before in
+    rw (toZ-ofZ (s .fits .q), toZ-ofZ (s .fits .x), reads w32 (within-+ (s .pre .1) (s .pre .2)) tt, c .if2 .left)
+    (made-forth (s .args .x) (s .args .q) (s .pre .0) (rw (toZ-ofZ (s .fits .d)) at (c .before .if1 .left)))
 
 pub made-spec : {M : Type 1} → statement M
-made-spec = tie.close (tie.spec undone-requires returns applied-requires returns-2)
+made-spec = tie.close (tie.spec sub-result returns sub-result-2 returns-2 add-result returns-3)

@@ -1,6 +1,6 @@
 -- A row without entries is turned (`row-turned`), another is made of its sums (`row-summed`).
 use mathlib.Core.Path.{_≡_}
-use Prim.Native.Nat.{_+_, _<_}
+use Prim.Native.Nat.{_+_, _*_, _<_}
 use native.Mathlib.Omega.{arith}
 use mir.Syntax.{w32}
 use mir.Val.{toZ, ofZ}
@@ -11,7 +11,8 @@ use Rattle.factor.specs.Rounding.{ruleBy}
 use Rattle.factor.specs.SumBounds.{RowIn}
 use Rattle.factor.specs.Layouts.{rowOf}
 use Rattle.linerun.specs.LineBounds.{row-of-16}
-use Rattle.passstage.specs.RowLaws.{left-adding, right-adding, rowSums, sums-small, sums-made}
+use Rattle.passstage.specs.Parts.{whole, rest, Raised, zeros, partsSum, together, together-wide}
+use Rattle.passstage.specs.RowLaws.{left-parting, right-parting, sums-small, sums-along}
 use Rattle.passstage.specs.RowLaws.{row-given, row-turned, row-summed}
 use Rattle.passstage.proofs.rows.take_row.Statement.{statement}
 use Rattle.passstage.proofs.rows.take_row.Tie as tie
@@ -68,62 +69,69 @@ add-columns-requires : tie.Need-add-columns-requires
 add-columns-requires c κs =
     let e = c .before .before in
     let s = e .before .before .before in
-    rw (e .before .row-of .ensures) (left-adding (s .pre .0) (s .args .m) (s .pre .1) (s .pre .3) (s .args .w) (s .pre .2))
+    rw (e .before .row-of .ensures) (left-parting (s .pre .0) (s .args .m) (s .pre .1) (s .pre .3))
+
+-- the sums of the entries on the left
+abbrev start : tie.After-add-columns → tie.Start
+start c = c .before .before .before .before .before .before
+
+left : (c : tie.After-add-columns) → let s = start c in let r = rowOf (s .args .f) (s .args .m) in
+    Raised (together (s .args .w)) (partsSum whole (s .args .sheet .now) (r .at) (r .left) (s .args .x .now) 0)
+    (partsSum rest (s .args .sheet .now) (r .at) (r .left) (s .args .x .now) 0) zeros
+    (c .add-columns .last .1 .1 .1 .1 .1 .1 .0)
+left c = rw (c .before .before .before .before .row-of .ensures) at (c .add-columns .ensures)
 
 add-add-columns : tie.Need-add-add-columns
-add-add-columns c =
-    let e = c .before .before .before in
-    let s = e .before .before .before in
-    rw (e .before .row-of .ensures) (let a = row s .room in omega arith)
+add-add-columns c = rw (c .before .before .before .before .row-of .ensures) (let a = row (start c) .room in omega arith)
 
 add-add-columns-2 : tie.Need-add-add-columns-2
-add-add-columns-2 c = let d = few (c .before .before .before .before .before .before .before) in omega arith
+add-add-columns-2 c = let d = few (start (c .before)) in omega arith
 
 mul-add-columns : tie.Need-mul-add-columns
-mul-add-columns c = let d = few (c .before .before .before .before .before .before .before) in omega arith
+mul-add-columns c = let d = few (start (c .before)) in omega arith
 
 add-columns-requires-2 : tie.Need-add-columns-requires-2
 add-columns-requires-2 c κs =
     let a = c .before .before in
-    let e = a .before .before .before in
-    let s = e .before .before .before in
-    rw (a .add-columns .ensures, e .before .row-of .ensures)
-    (right-adding (s .pre .0) (s .args .m) (s .pre .1) (s .pre .3) (s .args .w) (s .pre .2))
+    let s = start a in
+    rw (a .before .before .before .before .row-of .ensures)
+    (right-parting (s .pre .0) (s .args .m) (s .pre .1) (s .pre .3) (left a))
 
-mul-make-row : tie.Need-mul-make-row
-mul-make-row c = let d = few (c .before .before .before .before .before .before .before .before .before) in omega arith
+-- and on the right
+right : (c : tie.After-add-columns2) → let a = c .before .before .before in let s = start a in
+    let r = rowOf (s .args .f) (s .args .m) in
+    Raised (together (s .args .w))
+    (partsSum whole (s .args .sheet .now) (r .at + r .left) (r .right) (s .args .x .now) ((s .args .m + 1) * mostOrder))
+    (partsSum rest (s .args .sheet .now) (r .at + r .left) (r .right) (s .args .x .now) ((s .args .m + 1) * mostOrder))
+    (a .add-columns .last .1 .1 .1 .1 .1 .1 .0) (c .add-columns2 .last .1 .1 .1 .1 .1 .1 .0)
+right c = rw (c .before .before .before .before .before .before .before .row-of .ensures) at (c .add-columns2 .ensures)
 
-abbrev start : tie.After-add-columns2 → tie.Start
-start c = c .before .before .before .before .before .before .before .before .before
+mul-make-numbers : tie.Need-mul-make-numbers
+mul-make-numbers c = let d = few (start (c .before .before .before)) in omega arith
 
-sums : (c : tie.After-add-columns2) → let s = start c in
-    c .add-columns2 .last .1 .1 .1 .1 .1 .1 .0
-    ≡ rowSums (s .pre .0) (s .args .m) (s .pre .1) (s .pre .3) (s .args .w) (s .pre .2)
-sums c =
-    let a = c .before .before .before in
-    let s = start c in
-    sums-made (s .pre .0) (s .args .m) (s .pre .1) (s .pre .3) (s .args .w) (s .pre .2)
-    (a .before .before .before .before .row-of .ensures) (a .add-columns .ensures) (c .add-columns2 .ensures)
-
-make-row-requires : tie.Need-make-row-requires
-make-row-requires c κs =
-    let a = c .before .before in
+make-numbers-requires : tie.Need-make-numbers-requires
+make-numbers-requires c κs =
+    let b = c .before .before in
+    let a = b .before .before .before in
     let s = start a in (
-      rw (sign s) (row-given (s .pre .0) (s .args .m) (s .pre .1) (s .pre .3) (s .args .w) (s .pre .2)
-          (s .pre .4)),
-      rw (sums a) (sums-small (s .pre .0) (s .args .m) (s .pre .1) (s .pre .3) (s .args .w) (s .pre .2)),
+      rw (sign s) (row-given (s .pre .0) (s .args .m) (s .pre .1) (s .pre .3) (s .args .w) (s .pre .2) (s .pre .4)),
+      sums-small (s .pre .0) (s .args .m) (s .pre .1) (s .pre .3) (left a) (right b),
     )
 
 returns-2 : tie.Need-returns-2
 returns-2 c =
-    let a = c .before .before .before in
+    let b = c .before .before .before in
+    let a = b .before .before .before in
     let s = start a in
-    row-summed (s .args .back) (K s) (s .pre .0) (s .args .m) (s .pre .1) (s .pre .3) (s .args .w) (s .pre .2) (sums a)
-    (rw (sign s) at (c .make-row .ensures))
+    let w = together-wide (s .args .w) (s .pre .2) in
+    row-summed (s .args .back) (K s) (s .pre .0) (s .args .m) (s .pre .1) (s .pre .3) (s .args .w) (s .pre .2)
+    (b .add-columns2 .last .1 .1 .1 .1 .1 .1 .0)
+    (λ i l. sums-along (s .pre .0) (s .args .m) (s .pre .1) (s .pre .3) (left a) (right b) i (omega (arith, w .0)) (w .1))
+    (rw (sign s) at (c .make-numbers .ensures))
 
 pub take-row-spec : {M : Type 1} → statement M
 take-row-spec =
     tie.close
     (tie.spec add-d mul-d shared-slice-copy-out-d row-of-requires add-if1 mul-turn-row turn-row-requires returns
-    add-columns-requires add-add-columns add-add-columns-2 mul-add-columns add-columns-requires-2 mul-make-row make-row-requires
-    returns-2)
+    add-columns-requires add-add-columns add-add-columns-2 mul-add-columns add-columns-requires-2 mul-make-numbers
+    make-numbers-requires returns-2)
