@@ -40,8 +40,8 @@ struct answer bench_rectangle_allowance(uint32_t rule, const int32_t *col, size_
 block_call bench_two_pass_forward, bench_two_pass_inverse, twin_two_pass_forward, twin_two_pass_inverse;
 struct answer bench_two_pass_allowance(uint32_t rule, const int32_t *col, size_t cn, const int32_t *row, size_t rn, int32_t *y,
 				       size_t yn);
-typedef struct answer pass_call(uint32_t rule, const int32_t *s, size_t sn, uint32_t other, const int32_t *x, size_t xn, int32_t *y,
-				size_t yn);
+typedef struct answer pass_call(uint32_t rule, const int32_t *s, size_t sn, uint32_t other, const int32_t *x, size_t xn,
+				int32_t *y, size_t yn);
 pass_call bench_column_forward, bench_column_inverse, twin_column_forward, twin_column_inverse;
 pass_call bench_row_forward, bench_row_inverse, twin_row_forward, twin_row_inverse;
 

@@ -1,5 +1,5 @@
--- THE LINES OF A PASS (request R-4): `many` lines of `long` numbers, which are the columns of a rectangle or its rows. Definitions
--- for the code.
+-- THE LINES OF A PASS (request R-4): `many` lines of `long` numbers, which are the columns of a rectangle or its rows.
+-- Definitions for the code.
 use mathlib.Core.Bool.{Bool, true, false}
 use mathlib.Core.Path.{_≡_, refl}
 use Prim.Native.Nat.{ℕ, _*_}

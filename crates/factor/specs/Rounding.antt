@@ -10,7 +10,7 @@ use native.Mathlib.Omega.{arith}
 use borrow.Author.Tests.{eq-eqb}
 use lib.IntN.{ℤ, pos, natAbs, _+ℤ_, _-ℤ_, _*ℤ_}
 use lib.Signed.{shrZ, ltZ, _≤ℤ_, _<ℤ_}
-use Rattle.whole.specs.Diff.{lia, given₁, given₂, given₃, Within}
+use Rattle.whole.specs.Diff.{lia, given₁, given₃, Within}
 use Rattle.whole.specs.Stated.{Sign}
 use Rattle.whole.specs.Floor.{shr-lo, shr-hi, shr-unique, over-next}
 use Rattle.whole.specs.Laws.{distrib}

@@ -7,7 +7,7 @@ use Prim.Native.Nat.{ℕ, suc, _+_, _-_, _*_, _≤_, _<_}
 use native.Mathlib.Nat.{zero-add, add-zero}
 use native.Mathlib.Numerals.{add-one}
 use native.Mathlib.Omega.{arith}
-use lib.IntN.{ℤ, pos, _+ℤ_, _*ℤ_, +ℤ-idl, +ℤ-idr}
+use lib.IntN.{ℤ, pos, _*ℤ_, +ℤ-idl, +ℤ-idr}
 use lib.ListN.{replicate}
 use Rattle.whole.specs.Stated.{Sign, sum}
 use Rattle.whole.specs.Sum.{sum-cong}

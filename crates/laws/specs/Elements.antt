@@ -1,7 +1,7 @@
 -- THE ELEMENT OF AN ANSWER, request R-7: with 11 it is the first along the order of the stage whose number lies beyond the bound;
 -- "It is 0 in every other answer". Assumes nothing.
 use mathlib.Core.Bool.{Bool, true, false, cond}
-use mathlib.Core.List.{List, [], _∷_, reverse}
+use mathlib.Core.List.{List, [], _∷_}
 use mathlib.Core.Path.{_≡_, refl, sym, ap, _∙_}
 use Prim.Native.Nat.{ℕ, zero, suc, _+_, _/_, _%_, _≤_, _<_}
 use native.Mathlib.Decide.{ℕ-discrete, decLe}
@@ -15,7 +15,7 @@ use Rattle.rules.specs.declared.Mark.{Mark}
 use Rattle.rules.specs.declared.Rule.{Rule}
 use Rattle.rules.specs.Numbers.{mostOrder, bound, mostAllowance, at, count}
 use Rattle.rules.specs.Sheets.{reading}
-use Rattle.rules.specs.Stages.{inside, those, upTo, offender, Stage, forward, undo, allow, Ran, done, beyond, later, run, through}
+use Rattle.rules.specs.Stages.{inside, upTo, offender, Stage, forward, undo, allow, Ran, done, beyond, later, run, through}
 use Rattle.rules.specs.Stages.{recovery, runForward, runInverse, runAllowance}
 use Rattle.rules.specs.Answers.{_or-else_, readAnswer, clash, matching, pairChecked}
 use Rattle.rules.specs.Calls.{Reply, reply, Plan, line, joint, twoPass, orderChecked, columnPass, rowPass, under, sized}

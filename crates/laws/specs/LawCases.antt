@@ -16,7 +16,7 @@ use Rattle.rules.specs.Stages.{through, runForward, runAllowance, exactProduct,
 use Rattle.rules.specs.Shapes.{byTurn, turn, order, inRow, stageOf, lineStage, lineStages, jointSource, jointSign}
 use Rattle.rules.specs.Shapes.{jointWeight, jointShared, jointStage, jointStages, columns, rows, passSource, passSign, passWeight}
 use Rattle.rules.specs.Shapes.{passTurn, passStage, passStages}
-use Rattle.rules.specs.Answers.{_or-else_, accepted, refused, refusedAt, further}
+use Rattle.rules.specs.Answers.{_or-else_, accepted, refusedAt, further}
 use Rattle.rules.specs.Calls.{Reply, reply, line, joint, ranAnswer, ranMemory, runReply, forwardCall, allowanceCall}
 use Rattle.rules.specs.Calls.{twoPass, columnPass, rowPass, ruleOf, ruled}
 use Rattle.rules.specs.Strips.{stripAnswer, outputs, bytesOf, strip}

@@ -6,7 +6,7 @@ use mathlib.Core.Path.{_≡_, refl, sym, ap, _∙_}
 use Prim.Native.Nat.{ℕ, zero, suc, _+_, _*_, _≤_, _<_}
 use native.Mathlib.Omega.{arith}
 use lib.IntN.{ℤ, pos}
-use lib.ListN.{length, replicate, length-append, getD-replicate, List·getD-append}
+use lib.ListN.{length, length-append, getD-replicate, List·getD-append}
 use lib.Seq.{getD-append-add}
 use Rattle.rules.specs.declared.Item.the-variants.{Order, Count, KindNumber, Sign, Entry}
 use Rattle.rules.specs.Numbers.{mostOrder, mostCount, at}
@@ -15,7 +15,7 @@ use Rattle.rules.specs.Factors.{numbers, signsAt}
 use Rattle.rules.specs.Answers.{accepted, checked, further}
 use Rattle.laws.specs.Stated.Longest.{again, lowerFactor, longestSheet}
 use Rattle.laws.specs.Readers.{one-fine}
-use Rattle.laws.specs.Accepted.{stretch-of, entriesOf, never, FactorRead, Accepted, checked-accepted}
+use Rattle.laws.specs.Accepted.{stretch-of, entriesOf, never, FactorRead, checked-accepted}
 use Rattle.laws.specs.Prefix.{longestFactor}
 
 length-again : (n : ℕ) (v : List ℤ) → length (again n v) ≡ n * length v

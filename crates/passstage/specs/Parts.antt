@@ -4,7 +4,7 @@
 use borrow.Author.Tests.{le-leb, lt-leb, leb-true}
 use mathlib.Core.Bool.{Bool, true, false, cond}
 use mathlib.Core.List.{List}
-use mathlib.Core.Path.{_≡_, refl, sym, ap, ap₂, _∙_}
+use mathlib.Core.Path.{_≡_, refl, sym, ap, _∙_}
 use Prim.Native.Nat.{ℕ, _+_, _-_, _*_, _/_, _≤_, _<_}
 use native.Mathlib.Decide.{ℕ-discrete, decLt}
 use native.Mathlib.Nat as NatL
@@ -13,7 +13,7 @@ use native.Mathlib.Omega.{arith}
 use lib.Dec.{leb}
 use lib.IntN.{ℤ, pos, _+ℤ_, _-ℤ_, _*ℤ_, +ℤ-idl, +ℤ-idr, +ℤ-assoc}
 use lib.ListN.{length, set, replicate, length-set}
-use lib.Signed.{shrZ, _≤ℤ_, _<ℤ_}
+use lib.Signed.{shrZ}
 use Rattle.whole.specs.Diff.{lia, given₁, given₂, given₃, Within}
 use Rattle.whole.specs.Floor.{shr-lo, shr-hi, shr-unique}
 use Rattle.whole.specs.Laws.{distrib}

@@ -8,8 +8,8 @@ use native.Mathlib.Decide.{ℕ-discrete}
 use native.Mathlib.Numerals.{add-one}
 use native.Mathlib.Omega.{arith}
 use lib.Dec.{leb}
-use lib.IntN.{ℤ, pos, natAbs, _+ℤ_, _-ℤ_, _*ℤ_, +ℤ-idl, +ℤ-idr}
-use lib.ListN.{length, set, replicate}
+use lib.IntN.{ℤ, pos, natAbs, _+ℤ_, _-ℤ_, _*ℤ_, +ℤ-idr}
+use lib.ListN.{length, set}
 use lib.Seq.{set-getD}
 use lib.Signed.{ltZ}
 use Rattle.whole.specs.Diff.{lia, Within}
@@ -19,10 +19,9 @@ use Rattle.whole.specs.Stated.{sum, Sign}
 use Rattle.whole.specs.Sum.{sum-cong}
 use Rattle.laws.specs.Tests.{apart}
 use Rattle.rules.specs.declared.Rule.{Rule}
-use Rattle.rules.specs.Numbers.{mostOrder, mostCells, unit, bound, mostAllowance, at}
+use Rattle.rules.specs.Numbers.{mostOrder, mostCells, unit, bound, at}
 use Rattle.rules.specs.Stages.{fill, R}
 use Rattle.rules.specs.GoodStages.{Permutes}
-use Rattle.rules.specs.Laws.Lists.{length-fill, fill-at}
 use Rattle.rules.specs.Laws.Rounding.{rounds-nothing}
 use Rattle.factor.specs.declared.Layout.{Layout}
 use Rattle.factor.specs.declared.Row.{Row}
@@ -116,7 +115,8 @@ module _ {s : List ℤ} {f : Layout} (h : InSheet s f) (m : ℕ) (l : m < f .ord
     left-small : Bounded (rowOf f m .left * mostPart) u
     left-small =
         bounded-le (omega arith)
-        (raised-small (nothing {B = 0} (2 * mostOrder)) (λ c. parts-small left-parting whole whole-small (r .left) (omega arith) c)
+        (raised-small (nothing {B = 0} (2 * mostOrder))
+        (λ c. parts-small left-parting whole whole-small (r .left) (omega arith) c)
         (λ c. parts-small left-parting rest (λ z _. rest-small z) (r .left) (omega arith) c) a)
 
     pub right-parting : Parting s (rowOf f m .at + rowOf f m .left) (rowOf f m .right) x ((m + 1) * mostOrder) u
@@ -133,7 +133,8 @@ module _ {s : List ℤ} {f : Layout} (h : InSheet s f) (m : ℕ) (l : m < f .ord
     }
 
     -- and after those on the right
-    module _ {v : List ℤ} (b : Raised w (partsSum whole s (rowOf f m .at + rowOf f m .left) (rowOf f m .right) x ((m + 1) * mostOrder))
+    module _ {v : List ℤ} (b : Raised w
+        (partsSum whole s (rowOf f m .at + rowOf f m .left) (rowOf f m .right) x ((m + 1) * mostOrder))
         (partsSum rest s (rowOf f m .at + rowOf f m .left) (rowOf f m .right) x ((m + 1) * mostOrder)) u v) where
       pub sums-small : Bounded mostParts v
       sums-small =
@@ -273,7 +274,8 @@ module _ (back : Bool) (rule : Rule) {s : List ℤ} {f : Layout} (h : InSheet s 
       (rw e (scattered-bounded w _ _ q (λ i b. within-sign (h .sign m l) (q .small (m * mostOrder + i))))))
 
   -- by the sums
-  pub row-summed : (v : List ℤ) {y : List ℤ} {ok : Bool} → ((i : ℕ) → i < w → joined v i ≡ along (at s) (rowOf f m) m (lane i x)) →
+  pub row-summed : (v : List ℤ) {y : List ℤ} {ok : Bool} →
+      ((i : ℕ) → i < w → joined v i ≡ along (at s) (rowOf f m) m (lane i x)) →
       RowMade (m * mostOrder) w (λ i. madeBy back (at s (f .signs + m)) (at x (m * mostOrder + i)) (R rule unit (joined v i))) x
       y ok →
       RowMade (m * mostOrder) w (λ i. stepAt back rule s f (lane i x) m) x y ok

@@ -105,7 +105,8 @@ module _ (r : Lines) (f : Factor) where
   -- "A stage is one factor over the whole rectangle"
   unfoldable pub passStage : Stage
   passStage =
-      stageOf (f .kind) (move unit passSource) (weigh unit passSign passWeight (byTurn (r .many * r .long) (r .many * (r .long + 4)) passTurn))
+      stageOf (f .kind) (move unit passSource)
+      (weigh unit passSign passWeight (byTurn (r .many * r .long) (r .many * (r .long + 4)) passTurn))
 
 unfoldable pub passStages : Lines → List Factor → List Stage
 passStages r [] = []

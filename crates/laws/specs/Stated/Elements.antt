@@ -9,7 +9,7 @@ use Rattle.rules.specs.declared.Answer.{Answer}
 use Rattle.rules.specs.declared.Rule.{Rule}
 use Rattle.rules.specs.Numbers.{bound, at}
 use Rattle.rules.specs.Stages.{upTo, Stage, forward, undo, through, recovery}
-use Rattle.rules.specs.Calls.{Reply, Plan, forwardCall, inverseCall}
+use Rattle.rules.specs.Calls.{Plan, forwardCall, inverseCall}
 use Rattle.rules.specs.GoodStages.{has}
 
 -- "the first offending element" along an order: its number lies beyond the bound, and those that stand before it do not

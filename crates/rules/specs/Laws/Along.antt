@@ -1,4 +1,5 @@
--- FOR THE CODE: a pass is the line's stage along each line. `u` holds line l of the block v where u(i) is v's element i of that line.
+-- FOR THE CODE: a pass is the line's stage along each line. `u` holds line l of the block v where u(i) is v's element i of that
+-- line.
 use mathlib.Core.Bool.{Bool, true, false, cond}
 use mathlib.Core.List.{List}
 use mathlib.Core.Logic.{_≢_}
@@ -42,7 +43,8 @@ module _ {N : ℕ} {r : Lines} (t : Tiles N r) (f : Factor) where
     own-line : (j : ℕ) → j < r .long → off (passWeight r f) e (r .join l j) ≡ off (matrix f) i j
     unfolding off passWeight
     own-line j c =
-        rw (t .line-join l i a b, t .line-join l j a c, t .spot-join l i a b, t .spot-join l j a c, eq-eqb l l refl) (go (ℕ-discrete i j))
+        rw (t .line-join l i a b, t .line-join l j a c, t .spot-join l i a b, t .spot-join l j a c, eq-eqb l l refl)
+        (go (ℕ-discrete i j))
       where
         go : Dec (i ≡ j) → cond (eqb (r .join l i) (r .join l j)) (pos 0) (matrix f i j) ≡ cond (eqb i j) (pos 0) (matrix f i j)
         go (yes q) = rw (eq-eqb i j q, eq-eqb _ _ (ap (r .join l) q))
@@ -76,17 +78,20 @@ module _ {N : ℕ} {r : Lines} (t : Tiles N r) (f : Factor) where
     pub along-multiples : multiples unit N (off (passWeight r f) (r .join l i)) ≡ multiples unit (r .long) (off (matrix f) i)
     along-multiples =
         both-ways _ _
-        (λ h. multiples-yes unit (r .long) _ (λ j c. rw (own-line j c) at (multiples-at unit N (off (passWeight r f) e) h (r .join l j) (t .join-below l j a c))))
+        (λ h. multiples-yes unit (r .long) _ (λ j c.
+        rw (own-line j c) at (multiples-at unit N (off (passWeight r f) e) h (r .join l j) (t .join-below l j a c))))
         (λ h. multiples-yes unit N _ (λ k c. whole h k c (ℕ-discrete (r .line k) l)))
       where
-        whole : multiples unit (r .long) (off (matrix f) i) ≡ true → (k : ℕ) → k < N → Dec (r .line k ≡ l) → natAbs (off (passWeight r f) e k) % unit ≡ 0
+        whole : multiples unit (r .long) (off (matrix f) i) ≡ true → (k : ℕ) → k < N → Dec (r .line k ≡ l) →
+            natAbs (off (passWeight r f) e k) % unit ≡ 0
         whole h k c (yes q) =
             let d = t .spot-below k c in
             let z : r .join l (r .spot k) ≡ k = ap (λ (m : ℕ). r .join m (r .spot k)) (sym q) ∙ t .join-of k c in
             rw (← z, own-line (r .spot k) d) (multiples-at unit (r .long) (off (matrix f) i) h (r .spot k) d)
         whole h k c (no q) =
             let z : off (passWeight r f) e k ≡ pos 0 =
-            ap (off (passWeight r f) e) (sym (t .join-of k c)) ∙ other-line (r .line k) (r .spot k) (t .line-below k c) (t .spot-below k c) q in
+            ap (off (passWeight r f) e) (sym (t .join-of k c))
+            ∙ other-line (r .line k) (r .spot k) (t .line-below k c) (t .spot-below k c) q in
             rw z
 
   module _ (rule : Rule) where
@@ -94,7 +99,8 @@ module _ {N : ℕ} {r : Lines} (t : Tiles N r) (f : Factor) where
     n = r .long
 
     -- APPLIED: each line as the line's stage has it
-    module _ (s : Sound (r .long) f) (v : List ℤ) (room : N ≤ length v) {l : ℕ} (a : l < r .many) (u : List ℤ) (h : Holds r l v u) where
+    module _ (s : Sound (r .long) f) (v : List ℤ) (room : N ≤ length v) {l : ℕ} (a : l < r .many) (u : List ℤ)
+        (h : Holds r l v u) where
       moved : (i : ℕ) → i < n → f .kind ≡ Permutation →
           at (forward rule n (move unit (f .place)) u) i ≡ at (forward rule N (move unit (passSource r f)) v) (r .join l i)
       unfolding forward
@@ -103,13 +109,15 @@ module _ {N : ℕ} {r : Lines} (t : Tiles N r) (f : Factor) where
           ∙ sym (fill-at N _ v (r .join l i) (t .join-below l i a b) room ∙ ap (at v) (source-at a b))
 
       weighs-alike : (i : ℕ) → i < n → (o k : List ℕ) →
-          at (forward rule n (weigh unit (f .sign) (matrix f) o) u) i ≡ at (forward rule N (weigh unit (passSign r f) (passWeight r f) k) v) (r .join l i)
+          at (forward rule n (weigh unit (f .sign) (matrix f) o) u) i
+          ≡ at (forward rule N (weigh unit (passSign r f) (passWeight r f) k) v) (r .join l i)
       unfolding forward
       weighs-alike i b o k =
           fill-at n _ u i b (h .wide)
           ∙ sym
           (fill-at N _ v (r .join l i) (t .join-below l i a b) room
-          ∙ ap₂ (λ (x z : ℤ). x +ℤ R rule unit z) (ap₂ _*ℤ_ (sign-at a b) (sym (h .each i b))) (along-sum a b (λ z. z) refl v u h))
+          ∙ ap₂ (λ (x z : ℤ). x +ℤ R rule unit z) (ap₂ _*ℤ_ (sign-at a b) (sym (h .each i b)))
+          (along-sum a b (λ z. z) refl v u h))
 
       pub along-forward : Holds r l (forward rule N (passStage r f) v) (forward rule (r .long) (lineStage (r .long) f) u)
       unfolding lineStage passStage
@@ -118,7 +126,8 @@ module _ {N : ℕ} {r : Lines} (t : Tiles N r) (f : Factor) where
         each = λ i b.
             by-kind (λ z. at (forward rule n z u) i ≡ at (forward rule N (passStage r f) v) (r .join l i)) (f .kind) _ _
             (λ q. moved i b q ∙ ap (λ (z : Stage). at (forward rule N z v) (r .join l i)) (sym (stage-moves (f .kind) _ _ q)))
-            (λ q. weighs-alike i b _ _ ∙ ap (λ (z : Stage). at (forward rule N z v) (r .join l i)) (sym (stage-weighs (f .kind) _ _ q)));
+            (λ q.
+            weighs-alike i b _ _ ∙ ap (λ (z : Stage). at (forward rule N z v) (r .join l i)) (sym (stage-weighs (f .kind) _ _ q)));
       }
 
       -- ALLOWANCES
@@ -130,7 +139,8 @@ module _ {N : ℕ} {r : Lines} (t : Tiles N r) (f : Factor) where
           ∙ sym (fill-at N _ v (r .join l i) (t .join-below l i a b) room ∙ ap (at v) (source-at a b))
 
       weighed-allowance : (i : ℕ) → i < n → (o k : List ℕ) →
-          at (allow rule n (weigh unit (f .sign) (matrix f) o) u) i ≡ at (allow rule N (weigh unit (passSign r f) (passWeight r f) k) v) (r .join l i)
+          at (allow rule n (weigh unit (f .sign) (matrix f) o) u) i
+          ≡ at (allow rule N (weigh unit (passSign r f) (passWeight r f) k) v) (r .join l i)
       unfolding allow
       weighed-allowance i b o k =
           fill-at n _ u i b (h .wide)
@@ -146,8 +156,11 @@ module _ {N : ℕ} {r : Lines} (t : Tiles N r) (f : Factor) where
         wide = let w = h .wide in omega (arith, length-allow rule n (lineStage n f) u);
         each = λ i b.
             by-kind (λ z. at (allow rule n z u) i ≡ at (allow rule N (passStage r f) v) (r .join l i)) (f .kind) _ _
-            (λ q. moved-allowance i b q ∙ ap (λ (z : Stage). at (allow rule N z v) (r .join l i)) (sym (stage-moves (f .kind) _ _ q)))
-            (λ q. weighed-allowance i b _ _ ∙ ap (λ (z : Stage). at (allow rule N z v) (r .join l i)) (sym (stage-weighs (f .kind) _ _ q)));
+            (λ q.
+            moved-allowance i b q ∙ ap (λ (z : Stage). at (allow rule N z v) (r .join l i)) (sym (stage-moves (f .kind) _ _ q)))
+            (λ q.
+            weighed-allowance i b _ _
+            ∙ ap (λ (z : Stage). at (allow rule N z v) (r .join l i)) (sym (stage-weighs (f .kind) _ _ q)));
       }
 
     -- UNDONE: a block z is y undone if each of its lines is y's line undone
@@ -161,7 +174,8 @@ module _ {N : ℕ} {r : Lines} (t : Tiles N r) (f : Factor) where
     forward-past (move S p) v k b = fill-past N _ v k b
     forward-past (weigh S d w o) v k b = fill-past N _ v k b
 
-    pub along-undo : Sound (r .long) f → (y z : List ℤ) → N ≤ length y → length z ≡ length y → ((k : ℕ) → N ≤ k → at z k ≡ at y k) →
+    pub along-undo : Sound (r .long) f → (y z : List ℤ) → N ≤ length y → length z ≡ length y →
+        ((k : ℕ) → N ≤ k → at z k ≡ at y k) →
         ((l : ℕ) → l < r .many → Lined y z l) → undo rule N (passStage r f) y ≡ z
     along-undo s y z room long past lines =
         ap (undo rule N (passStage r f)) (sym applied) ∙ undo-forward rule N (pass-good t f s) z (omega arith)
@@ -178,5 +192,6 @@ module _ {N : ℕ} {r : Lines} (t : Tiles N r) (f : Factor) where
             same-list N _ y (length-forward rule N (passStage r f) z ∙ long)
             (λ k b.
             let e = t .join-of k b in
-            ap (at (forward rule N (passStage r f) z)) (sym e) ∙ value (r .line k) (r .spot k) (t .line-below k b) (t .spot-below k b) ∙ ap (at y) e)
+            ap (at (forward rule N (passStage r f) z)) (sym e)
+            ∙ value (r .line k) (r .spot k) (t .line-below k b) (t .spot-below k b) ∙ ap (at y) e)
             (λ k b. forward-past (passStage r f) z k b ∙ past k b)

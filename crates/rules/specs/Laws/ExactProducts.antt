@@ -1,7 +1,7 @@
 -- THE EXACT PRODUCT IS THE PRODUCT OF THE FACTORS' MATRICES: of a line, and of a rectangle, where it is A·X·B-transposed.
 -- Each stage is one matrix (`line-has`, `joint-has`), and one matrix after another is their product (`multiplies-after`).
 use mathlib.Core.Bool.{cond}
-use mathlib.Core.List.{List, [], _∷_}
+use mathlib.Core.List.{List}
 use mathlib.Core.Logic.{_≢_}
 use mathlib.Core.Path.{_≡_, refl, sym, ap, ap₂, _∙_}
 use Prim.Native.Nat.{ℕ, _+_, _*_, _/_, _%_, _≤_, _<_}

@@ -1,4 +1,5 @@
--- R-4: THE STAGES OF A PASS ARE GOOD, over the columns and over the rows of a rectangle; their lists cut in two, counts and scales.
+-- R-4: THE STAGES OF A PASS ARE GOOD, over the columns and over the rows of a rectangle; their lists cut in two, counts and
+-- scales.
 use mathlib.Core.List.{List, [], _∷_, _++_}
 use mathlib.Core.Logic.{_≢_}
 use mathlib.Core.Path.{_≡_, refl, sym, ap, ap₂, _∙_}
@@ -14,7 +15,8 @@ use Rattle.whole.specs.Sum.{sum-swap}
 use Rattle.rules.specs.Numbers.{unit}
 use Rattle.rules.specs.Factors.{Factor, matrix}
 use Rattle.rules.specs.Stages.{Stage, exactScale}
-use Rattle.rules.specs.Shapes.{turn, inRow, Lines, columns, rows, passSource, passSign, passWeight, passTurn, passStage, passStages}
+use Rattle.rules.specs.Shapes.{turn, inRow, Lines, columns, rows, passSource, passSign, passWeight, passTurn, passStage}
+use Rattle.rules.specs.Shapes.{passStages}
 use Rattle.rules.specs.GoodStages.{Permutes, Good, moves, weighs, AllGood}
 use Rattle.rules.specs.Laws.SoundFactors.{Sound, AllSound}
 use Rattle.rules.specs.Laws.RecoveryOrder.{Ranked, turns-recover}
@@ -59,7 +61,8 @@ rows-tile n1 n2 = record {
 }
 
 -- each line by the same permutation
-lines-permute : {N : ℕ} {r : Lines} {g : ℕ → ℕ} → Tiles N r → Permutes (r .long) g → Permutes N (λ e. r .join (r .line e) (g (r .spot e)))
+lines-permute : {N : ℕ} {r : Lines} {g : ℕ → ℕ} → Tiles N r → Permutes (r .long) g →
+    Permutes N (λ e. r .join (r .line e) (g (r .spot e)))
 lines-permute {N} {r} {g} h p = record {
   from = λ e. r .join (r .line e) (p .from (r .spot e));
   below = λ e l. h .join-below _ _ (h .line-below e l) (p .below _ (h .spot-below e l));
@@ -70,7 +73,9 @@ lines-permute {N} {r} {g} h p = record {
   where
     back : (e : ℕ) → e < N → (g : ℕ → ℕ) (i : ℕ) → i < r .long → g i ≡ r .spot e →
         r .join (r .line (r .join (r .line e) i)) (g (r .spot (r .join (r .line e) i))) ≡ e
-    back e l g i b q = rw (h .line-join (r .line e) i (h .line-below e l) b, h .spot-join (r .line e) i (h .line-below e l) b, q) (h .join-of e l)
+    back e l g i b q =
+        rw (h .line-join (r .line e) i (h .line-below e l) b, h .spot-join (r .line e) i (h .line-below e l) b, q)
+        (h .join-of e l)
 
 module _ {N : ℕ} {r : Lines} (h : Tiles N r) (f : Factor) where
   pass-permutes : Permutes (r .long) (f .place) → Permutes N (passSource r f)

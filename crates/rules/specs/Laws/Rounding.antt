@@ -1,8 +1,8 @@
 -- THE ROUNDING RULES, by cases. R gives the number that its rule names, and no other. It obeys the law of a rounding, by which
 -- alone the laws of the allowances use it.
 use mathlib.Core.Bool.{Bool, true, false, cond}
-use mathlib.Core.Path.{_≡_, refl, sym, ap, _∙_}
-use Prim.Native.Nat.{ℕ, suc, _+_, _*_, _-_, _/_, _%_, _≤_, _<_}
+use mathlib.Core.Path.{_≡_, refl, ap, _∙_}
+use Prim.Native.Nat.{ℕ, suc, _+_, _*_, _/_, _%_, _≤_, _<_}
 use native.Mathlib.Omega.{arith}
 use borrow.Author.Tests.{eq-eqb, eqb-true, eqb-false, leb-true, leb-false}
 use lib.Dec.{eqb, leb}

@@ -8,7 +8,7 @@ use mir.Facts.{toZ-ofZ}
 use mir.Syntax.{w64}
 use mir.Val.{toZ, ofZ}
 use Rattle.whole.specs.Diff.{lia, given₁}
-use Rattle.whole.specs.Machine.{within-pos, within--, within-shr, fits, reads}
+use Rattle.whole.specs.Machine.{within--, within-shr, fits, reads}
 use Rattle.whole.specs.Parity.{left-over, parity-small}
 use Rattle.factor.proofs.rounding.odd.Statement.{statement}
 use Rattle.factor.proofs.rounding.odd.Tie as tie

@@ -1,6 +1,6 @@
 -- The sums have the first j rows (`adding-next`), and are small (`adding-small`).
 use mathlib.Core.Path.{_≡_, _∙_}
-use Prim.Native.Nat.{suc, _+_, _-_, _*_, _≤_}
+use Prim.Native.Nat.{_+_, _-_, _*_, _≤_}
 use native.Mathlib.Nat as NatL
 use native.Mathlib.Omega.{arith}
 use mir.Syntax.{w32}

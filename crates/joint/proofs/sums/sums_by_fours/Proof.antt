@@ -1,13 +1,13 @@
 -- The first 4 g columns are done, the others are 0 (`four-more`).
-use mathlib.Core.Path.{_≡_, refl, sym, _∙_}
-use Prim.Native.Nat.{_+_, _*_, _-_, _/_, _%_, _≤_}
+use mathlib.Core.Path.{_≡_, refl, _∙_}
+use Prim.Native.Nat.{_+_, _*_, _-_, _/_, _≤_}
 use native.Mathlib.Nat.{div-add-mod}
 use native.Mathlib.Omega.{arith}
 use lib.IntN.{pos}
 use lib.ListN.{replicate}
 use Rattle.rules.specs.Stages.{fill}
 use Rattle.rules.specs.Laws.Lists.{fill-same}
-use Rattle.joint.specs.Sums.{Adding, added, rowsSum, side-adding, side-four, nothing, four-rows, four-more}
+use Rattle.joint.specs.Sums.{Adding, added, rowsSum, side-four, nothing, four-rows, four-more}
 use Rattle.joint.specs.Sums.{adding-all-small}
 use Rattle.joint.proofs.sums.sums_by_fours.Statement.{statement}
 use Rattle.joint.proofs.sums.sums_by_fours.Tie as tie

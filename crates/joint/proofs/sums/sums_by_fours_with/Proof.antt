@@ -1,6 +1,6 @@
 -- The first 4 g columns are done, the others are 0 (`four-more`).
-use mathlib.Core.Path.{_≡_, refl, sym, _∙_}
-use Prim.Native.Nat.{_+_, _*_, _-_, _/_, _%_, _≤_}
+use mathlib.Core.Path.{_≡_, refl, _∙_}
+use Prim.Native.Nat.{_+_, _*_, _-_, _/_, _≤_}
 use native.Mathlib.Nat.{div-add-mod}
 use native.Mathlib.Omega.{arith}
 use lib.IntN.{pos, _*ℤ_}
@@ -11,8 +11,7 @@ use mir.Val.{toZ}
 use Rattle.rules.specs.Numbers.{at}
 use Rattle.rules.specs.Stages.{fill}
 use Rattle.rules.specs.Laws.Lists.{length-fill}
-use Rattle.joint.specs.Sums.{Adding, added, sideWith, side-adding, side-four, nothing, own-small, four-with, four-more}
-use Rattle.joint.specs.Sums.{added-twice}
+use Rattle.joint.specs.Sums.{Adding, added, sideWith, side-four, nothing, own-small, four-with, four-more}
 use Rattle.joint.specs.Sums.{adding-all-small}
 use Rattle.joint.proofs.sums.sums_by_fours_with.Statement.{statement}
 use Rattle.joint.proofs.sums.sums_by_fours_with.Tie as tie

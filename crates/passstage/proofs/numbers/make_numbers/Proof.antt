@@ -1,14 +1,13 @@
 -- The first l numbers are made, and it is known whether they are all in bound (`Judged`).
-use mathlib.Core.Bool.{true}
-use mathlib.Core.Path.{_≡_, refl, ap, _∙_}
-use Prim.Native.Nat.{ℕ, _+_, _-_, _*_, _≤_, _<_}
+use mathlib.Core.Path.{_≡_, refl, _∙_}
+use Prim.Native.Nat.{ℕ, _+_, _-_, _≤_, _<_}
 use native.Mathlib.Omega.{arith}
-use lib.IntN.{ℤ, pos, _+ℤ_, _*ℤ_}
+use lib.IntN.{ℤ}
 use mir.Facts.{toZ-ofZ}
 use mir.Syntax.{w32, w64}
 use mir.Val.{toZ, ofZ}
 use Rattle.whole.specs.Machine.{back, reads}
-use Rattle.rules.specs.Numbers.{mostOrder, unit, at}
+use Rattle.rules.specs.Numbers.{unit, at}
 use Rattle.rules.specs.Stages.{R}
 use Rattle.factor.specs.MovedInPlace.{scattered}
 use Rattle.factor.specs.Rounding.{ruleBy}

@@ -11,7 +11,7 @@ use Rattle.whole.specs.Diff.{Within}
 use Rattle.whole.specs.Machine.{within-le, within-pos, within-+, within-shr, fits, reads, back}
 use Rattle.rules.specs.Numbers.{unit}
 use Rattle.factor.specs.Rounding.{liftBy, lift-most}
-use Rattle.passstage.specs.Parts.{mostParts, mostCarry, mostNew, carry-small, rounds-parts}
+use Rattle.passstage.specs.Parts.{mostParts, mostNew, carry-small, rounds-parts}
 use Rattle.passstage.proofs.numbers.rounded.Statement.{statement}
 use Rattle.passstage.proofs.numbers.rounded.Tie as tie
 

@@ -1,15 +1,14 @@
 -- The products of the first c lines are made, all others are still 0 (`raised-next`).
 use mathlib.Core.Path.{_≡_, refl, sym, _∙_}
-use Prim.Native.Nat.{_+_, _-_, _*_, _≤_, _<_}
+use Prim.Native.Nat.{_+_, _-_, _≤_, _<_}
 use native.Mathlib.Omega.{arith}
-use lib.IntN.{ℤ, pos, _+ℤ_, _*ℤ_, +ℤ-idl}
-use lib.ListN.{length}
+use lib.IntN.{ℤ, _*ℤ_, +ℤ-idl}
 use mir.Facts.{toZ-ofZ}
 use mir.Syntax.{w32}
 use mir.Val.{toZ, ofZ}
 use Rattle.whole.specs.Diff.{Within}
 use Rattle.whole.specs.Machine.{fits, reads, back, within-*}
-use Rattle.rules.specs.Numbers.{mostOrder, bound, at}
+use Rattle.rules.specs.Numbers.{bound, at}
 use Rattle.joint.specs.Sums.{zero-at}
 use Rattle.passstage.specs.Parts.{whole, rest, whole-small, rest-small, Raised, raised-none, raised-next}
 use Rattle.passstage.proofs.sums.products.Statement.{statement}
@@ -117,8 +116,15 @@ loop-again c =
     let a = s .pre .2 in (
       omega arith,
       raised-next (l .c) (room i .1) (l .inv .1)
-          (rw (entry s, whole-there (c .before .before), reads w32 (within-* a (whole-small (Z i) (number i))) tt, s .pre .4, zero-at 32 (l .c)) (sym (+ℤ-idl _)))
-          (rw (entry s, rest-there c, reads w32 (within-* a (rest-small (Z i))) tt, s .pre .4, zero-at 32 (16 + l .c)) (sym (+ℤ-idl _))),
+          (rw (
+            entry s,
+            whole-there (c .before .before),
+            reads w32 (within-* a (whole-small (Z i) (number i))) tt,
+            s .pre .4,
+            zero-at 32 (l .c),
+          ) (sym (+ℤ-idl _)))
+          (rw (entry s, rest-there c, reads w32 (within-* a (rest-small (Z i))) tt, s .pre .4, zero-at 32 (16 + l .c))
+          (sym (+ℤ-idl _))),
     )
 
 returns : tie.Need-returns Inv-loop μ-loop

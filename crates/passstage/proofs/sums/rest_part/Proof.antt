@@ -9,7 +9,7 @@ use mir.Val.{toZ, ofZ}
 use Rattle.whole.specs.Diff.{Within}
 use Rattle.whole.specs.Machine.{within-pos, within-*, within-shr, fits, reads}
 use Rattle.rules.specs.Numbers.{unit}
-use Rattle.passstage.specs.Parts.{whole, rest, whole-small, rest-small}
+use Rattle.passstage.specs.Parts.{whole, whole-small, rest-small}
 use Rattle.passstage.proofs.sums.rest_part.Statement.{statement}
 use Rattle.passstage.proofs.sums.rest_part.Tie as tie
 
