@@ -49,7 +49,7 @@ joint-turn {c} {r} {n1} {n2} {i} {j} p a b e =
 pub pass-turn : (q : Refused) (f : Factor) (e : ℕ) →
     lines q .line e * (q .n1 + 4) + turn (f .kind) (q .n1) (inRow f (lines q .spot e)) (lines q .spot e) ≡ passTurn (lines q) f e
 unfolding passTurn
-pass-turn q f e = rw (lines-long (q .down) (q .many) (q .n1))
+pass-turn q f e = rw (lines-long (q .down) (q .n2) (q .n1))
 
 -- no turn of a line is later than n + 3
 pub turn-most : (s : List ℤ) (n i m : ℕ) → m < n → turn (kindOf (count s i)) n (inRow (factorAt s n i) m) m < n + 4

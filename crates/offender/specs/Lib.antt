@@ -4,3 +4,4 @@ pub mod FactorMatrix
 pub mod ElementTurns
 pub mod RefusedBounds
 pub mod NamedElements
+pub mod OneRow

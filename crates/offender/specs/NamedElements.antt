@@ -2,45 +2,58 @@
 use mathlib.Core.Bool.{Bool, true, false}
 use mathlib.Core.List.{List}
 use mathlib.Core.Logic.{_≢_}
-use mathlib.Core.Path.{_≡_, refl, subst}
+use mathlib.Core.Path.{_≡_, refl, sym, subst}
 use Prim.Native.Nat.{ℕ, _+_, _*_, _≤_}
 use native.Mathlib.Omega.{arith}
 use lib.IntN.{ℤ}
 use lib.ListN.{length}
 use Rattle.rules.specs.declared.Kind.the-variants.{Permutation}
 use Rattle.rules.specs.declared.Rule.{Rule}
-use Rattle.rules.specs.Numbers.{mostOrder, unit, bound, count}
+use Rattle.rules.specs.Numbers.{unit, bound, count}
 use Rattle.rules.specs.Sheets.{kindOf}
 use Rattle.rules.specs.Factors.{Factor, factorAt}
-use Rattle.rules.specs.Stages.{Stage, move, weigh, fill, upTo, forward, undo, recovery, firstRead}
-use Rattle.rules.specs.Shapes.{byTurn, order, lineStage, jointStage, passSign, passWeight, passTurn, passStage}
+use Rattle.rules.specs.Stages.{Stage, move, weigh, upTo, forward, undo, recovery}
+use Rattle.rules.specs.Shapes.{byTurn, order, jointStage, passSign, passWeight, passTurn, passStage}
 use Rattle.rules.specs.GoodStages.{Good, Recovers}
 use Rattle.rules.specs.Laws.SoundFactors.{good-recovers}
-use Rattle.rules.specs.Laws.Kinds.{line-good, joint-good, stage-moves, stage-weighs}
-use Rattle.rules.specs.Laws.Offenders.{none-beyond}
+use Rattle.rules.specs.Laws.Kinds.{joint-good, stage-moves, stage-weighs}
+use Rattle.rules.specs.Laws.Offenders.{read-below, none-beyond}
 use Rattle.rules.specs.Laws.Passes.{pass-good}
-use Rattle.laws.specs.Accepted.{FactorRead}
+use Rattle.laws.specs.Tests.{apart}
 use Rattle.laws.specs.Sound.{factor-sound}
 use Rattle.factor.specs.declared.run.Task.{Task}
 use Rattle.factor.specs.declared.run.Task.the-variants.{Forward, Inverse, Allowance}
 use Rattle.factor.specs.SumBounds.{Bounded, bounded-fill, bounded-put}
-use Rattle.factor.specs.LayoutInSheet.{Paired}
 use Rattle.factor.specs.PassLines.{linesBy, lines-long, tiles-by}
-use Rattle.factor.specs.Tasks.{limitOf, nameAfter, stageBy}
+use Rattle.factor.specs.Tasks.{isInverse, limitOf, nameAfter, stageBy}
 use Rattle.offender.specs.declared.weights.Shape.{Shape}
-use Rattle.offender.specs.declared.weights.Shape.the-variants.{Line, Joint, Pass}
+use Rattle.offender.specs.declared.weights.Shape.the-variants.{Joint, Pass}
 use Rattle.offender.specs.declared.weights.Refused.{Refused}
-use Rattle.offender.specs.Search.{searched-is}
+use Rattle.offender.specs.Search.{applied-is, undone-is}
 use Rattle.offender.specs.RefusedStages.{cellsBy, turnsBy, scaleBy, signBy, weightBy, turnBy, stageShaped}
-use Rattle.offender.specs.RefusedStages.{cells, signOf, weightOf, stageOf, orderOf, appliedOf, searchOf}
+use Rattle.offender.specs.RefusedStages.{cells, signOf, weightOf, stageOf, orderOf, searchOf}
 use Rattle.offender.specs.RefusedStages.{Weighed}
 
--- ---- a factor with itself for a partner
-pub alone : {s : List ℤ} {n i : ℕ} → 1 ≤ n → n ≤ mostOrder → FactorRead s n i → Paired s s n n i i
-alone l m h = record { some1 = l; most1 = m; column = h; some2 = l; most2 = m; row = h; match = refl }
+-- ---- whether a run of a task names an element
+unfoldable pub isNaming : Task → Bool
+isNaming Forward = true
+isNaming Inverse = true
+isNaming Allowance = false
+
+pub naming-limit : (task : Task) → isNaming task ≡ true → limitOf task ≡ bound
+unfolding isNaming limitOf
+naming-limit Forward t = refl
+naming-limit Inverse t = refl
+naming-limit Allowance t = apart (sym t)
+
+pub none-named : (task : Task) (N : ℕ) (s : Stage) (v : List ℤ) → isNaming task ≡ false → 0 ≡ nameAfter task N s v
+unfolding isNaming nameAfter
+none-named Forward N s v t = apart t
+none-named Inverse N s v t = apart t
+none-named Allowance N s v t = refl
 
 -- ---- a permutation: moved numbers stay in bound
-moved-none : (task : Task) (rule : Rule) (N S : ℕ) (p : ℕ → ℕ) {v : List ℤ} → Bounded (limitOf task) v →
+pub moved-none : (task : Task) (rule : Rule) (N S : ℕ) (p : ℕ → ℕ) {v : List ℤ} → Bounded (limitOf task) v →
     nameAfter task N (move S p) (stageBy task rule N (move S p) v) ≡ 0
 unfolding limitOf nameAfter stageBy forward undo recovery
 moved-none Forward rule N S p h =
@@ -60,8 +73,6 @@ none-moved task rule q c r {v} k h = go (q .shape)
     go : (s : Shape) →
         let t = stageShaped q (factorAt c (q .n1) (q .i)) (factorAt r (q .n2) (q .j)) s in
         nameAfter task (cells q) t (stageBy task rule (cells q) t v) ≡ 0
-    go Line =
-        unfold stageShaped lineStage factorAt in moving (cells q) (stage-moves _ _ _ k) (moved-none task rule (cells q) _ _ h)
     go Joint =
         unfold stageShaped jointStage factorAt in moving (cells q) (stage-moves _ _ _ k) (moved-none task rule (cells q) _ _ h)
     go Pass =
@@ -83,52 +94,46 @@ module _ {q : Refused} {c r : List ℤ} (h : Weighed q c r) where
   B = factorAt r (q .n2) (q .j)
 
   -- it is the document's
-  weighing : stageOf q c r ≡ weigh (scaleBy (q .shape)) (signOf q c r) (weightOf q c r) (orderOf q c r)
+  weighing : stageOf q c r ≡ weigh (scaleBy (q .shape)) (signOf q c r) (weightOf q c r) (orderOf true q c r)
   weighing = go (q .shape)
     where
       go : (s : Shape) →
           stageShaped q A B s ≡ weigh (scaleBy s) (signBy q A B s) (weightBy q A B s)
           (byTurn (cellsBy q s) (turnsBy q s) (turnBy q A B s))
-      go Line =
-          unfold cellsBy turnsBy scaleBy signBy weightBy turnBy stageShaped lineStage order factorAt in
-          stage-weighs _ _ _ (h .weighs)
       go Joint =
           unfold cellsBy turnsBy scaleBy signBy weightBy turnBy stageShaped jointStage order factorAt in
           stage-weighs _ _ _ (h .weighs)
       go Pass =
           unfold cellsBy turnsBy scaleBy signBy weightBy turnBy stageShaped factorAt in
-          pass-weighs (q .down) (q .many) (q .n1) A (h .weighs)
+          pass-weighs (q .down) (q .n2) (q .n1) A (h .weighs)
 
   good : Good (cells q) (stageOf q c r)
-  good = go (q .shape)
+  good = go (q .shape) refl
     where
-      go : (s : Shape) → Good (cellsBy q s) (stageShaped q A B s)
-      go Line = unfold cellsBy stageShaped in line-good (q .n1) A (factor-sound (h .placed .pair .column))
-      go Joint =
+      go : (s : Shape) → q .shape ≡ s → Good (cellsBy q s) (stageShaped q A B s)
+      go Joint e =
           unfold cellsBy stageShaped in
-          joint-good (q .n1) (q .n2) A B (unfold factorAt in h .placed .pair .match) (factor-sound (h .placed .pair .column))
-          (factor-sound (h .placed .pair .row))
-      go Pass =
+          joint-good (q .n1) (q .n2) A B (unfold factorAt in h .placed .pair e .match) (factor-sound (h .placed .column))
+          (factor-sound (h .placed .pair e .row))
+      go Pass e =
           unfold cellsBy stageShaped in
-          pass-good (tiles-by (q .down) (q .many) (q .n1)) A
-          (rw (lines-long (q .down) (q .many) (q .n1)) (factor-sound (h .placed .pair .column)))
+          pass-good (tiles-by (q .down) (q .n2) (q .n1)) A
+          (rw (lines-long (q .down) (q .n2) (q .n1)) (factor-sound (h .placed .column)))
 
-  recovers : Recovers (cells q) (signOf q c r) (weightOf q c r) (orderOf q c r)
+  recovers : Recovers (cells q) (signOf q c r) (weightOf q c r) (orderOf true q c r)
   recovers = good-recovers (subst (Good (cells q)) weighing good)
 
-  -- applied: in reading order
-  pub applied-named : (rule : Rule) (v : List ℤ) →
-      firstRead (cells q) (fill (cells q) (appliedOf rule q c r v) v)
-      ≡ nameAfter Forward (cells q) (stageOf q c r) (stageBy Forward rule (cells q) (stageOf q c r) v)
-  unfolding nameAfter stageBy forward appliedOf
-  applied-named rule v = rw weighing
-
-  -- undone: in the recovery order
-  pub undone-named : (rule : Rule) (v : List ℤ) → cells q ≤ length v →
-      searchOf rule q c r (orderOf q c r) v
-      ≡ nameAfter Inverse (cells q) (stageOf q c r) (stageBy Inverse rule (cells q) (stageOf q c r) v)
-  unfolding nameAfter stageBy undo recovery
-  undone-named rule v room =
+  -- applied in reading order, undone in the recovery order
+  pub found-named : (task : Task) (rule : Rule) (v : List ℤ) → isNaming task ≡ true → cells q ≤ length v →
+      searchOf rule (isInverse task) q c r (orderOf (isInverse task) q c r) v
+      ≡ nameAfter task (cells q) (stageOf q c r) (stageBy task rule (cells q) (stageOf q c r) v)
+  unfolding isNaming isInverse nameAfter stageBy forward undo recovery byTurn
+  found-named Forward rule v t room =
       rw weighing
-      (searched-is rule (cells q) (scaleBy (q .shape)) (signOf q c r) (weightOf q c r) (recovers .inOrder) v
+      (applied-is rule (cells q) (scaleBy (q .shape)) (signOf q c r) (weightOf q c r) (upTo (cells q)) v (read-below (cells q))
+      room)
+  found-named Inverse rule v t room =
+      rw weighing
+      (undone-is rule (cells q) (scaleBy (q .shape)) (signOf q c r) (weightOf q c r) (recovers .inOrder) v
       (λ k m. omega (arith, recovers .only k m)))
+  found-named Allowance rule v t room = apart (sym t)

@@ -21,7 +21,7 @@ use Rattle.rules.specs.Laws.Rectangles.{row-below, col-below}
 use Rattle.factor.specs.PassLines.{lines-many, lines-long, tiles-by}
 use Rattle.factor.specs.Rounding.{rounded-within}
 use Rattle.offender.specs.declared.weights.Shape.{Shape}
-use Rattle.offender.specs.declared.weights.Shape.the-variants.{Line, Joint, Pass}
+use Rattle.offender.specs.declared.weights.Shape.the-variants.{Joint, Pass}
 use Rattle.offender.specs.declared.weights.Refused.{Refused}
 use Rattle.offender.specs.Search.{Passed}
 use Rattle.offender.specs.RefusedStages.{cellsBy, scaleBy, signBy, weightBy, lines, cells, signOf, weightOf}
@@ -29,21 +29,20 @@ use Rattle.offender.specs.RefusedStages.{Small, Placed, HasWeights, Weig
 use Rattle.offender.specs.FactorMatrix.{sign-is, matrix-small}
 
 pub small : {q : Refused} {c r : List ℤ} → Placed q c r → Small q
-small p = (p .pair .most1, p .pair .most2, p .most)
+small p = (p .most1, p .most2)
 
 cells-by : (q : Refused) → Small q → (s : Shape) → cellsBy q s ≤ mostCells
 unfolding cellsBy
-cells-by q h Line = let a = h .0 in omega arith
 cells-by q h Joint = mul-le-mul (h .0) (h .1)
-cells-by q h Pass = mul-le-mul (h .2) (h .0)
+cells-by q h Pass = mul-le-mul (h .1) (h .0)
 
 -- an element of a pass is in one of its lines
-module _ (q : Refused) (e : ℕ) (l : e < q .many * q .n1) where
-  pub line-below : lines q .line e < q .many
-  line-below = rw (lines-many (q .down) (q .many) (q .n1)) at (tiles-by (q .down) (q .many) (q .n1) .line-below e l)
+module _ (q : Refused) (e : ℕ) (l : e < q .n2 * q .n1) where
+  pub line-below : lines q .line e < q .n2
+  line-below = rw (lines-many (q .down) (q .n2) (q .n1)) at (tiles-by (q .down) (q .n2) (q .n1) .line-below e l)
 
   pub spot-below : lines q .spot e < q .n1
-  spot-below = rw (lines-long (q .down) (q .many) (q .n1)) at (tiles-by (q .down) (q .many) (q .n1) .spot-below e l)
+  spot-below = rw (lines-long (q .down) (q .n2) (q .n1)) at (tiles-by (q .down) (q .n2) (q .n1) .spot-below e l)
 
 -- a weight, a sum, and the sum rounded
 abbrev pub mostWeight : ℕ
@@ -65,17 +64,13 @@ module _ {q : Refused} {c r : List ℤ} (h : Weighed q c r) where
 
   -- the factors of the stage
   pub first : HasWeights c (q .n1) (q .i)
-  first = record { most = h .placed .pair .most1; read = h .placed .pair .column; weighs = h .weighs }
+  first = record { most = h .placed .most1; read = h .placed .column; weighs = h .weighs }
 
-  pub second : HasWeights r (q .n2) (q .j)
-  second = let p = h .placed .pair in
+  pub second : q .shape ≡ Joint → HasWeights r (q .n2) (q .j)
+  second s = let p = h .placed .pair s in
       record { most = p .most2; read = p .row; weighs = λ e. h .weighs (p .match ∙ e) }
 
   -- an element is in a row and a column of them
-  pub in-line : q .shape ≡ Line → (e : ℕ) → e < cells q → e < q .n1
-  unfolding cellsBy
-  in-line s e l = rw s at l
-
   pub in-joint : q .shape ≡ Joint → (e : ℕ) → e < cells q → e < q .n1 * q .n2
   unfolding cellsBy
   in-joint s e l = rw s at l
@@ -86,7 +81,7 @@ module _ {q : Refused} {c r : List ℤ} (h : Weighed q c r) where
   pub in-column : q .shape ≡ Joint → (e : ℕ) → e < cells q → e % q .n2 < q .n2
   in-column s e l = col-below (q .n1) (q .n2) e (in-joint s e l)
 
-  pub in-pass : q .shape ≡ Pass → (e : ℕ) → e < cells q → e < q .many * q .n1
+  pub in-pass : q .shape ≡ Pass → (e : ℕ) → e < cells q → e < q .n2 * q .n1
   unfolding cellsBy
   in-pass s e l = rw s at l
 
@@ -98,10 +93,9 @@ module _ {q : Refused} {c r : List ℤ} (h : Weighed q c r) where
     where
       go : (s : Shape) → q .shape ≡ s →
           Sign (signBy q (factorAt c (q .n1) (q .i)) (factorAt r (q .n2) (q .j)) s e)
-      go Line s = unfold signBy in sign-is first refl e (in-line s e l)
       go Joint s =
           unfold signBy jointSign in
-          signs-times (sign-is first refl (e / q .n2) (in-row s e l)) (sign-is second refl (e % q .n2) (in-column s e l))
+          signs-times (sign-is first refl (e / q .n2) (in-row s e l)) (sign-is (second s) refl (e % q .n2) (in-column s e l))
       go Pass s = unfold signBy passSign in sign-is first refl (lines q .spot e) (in-spot s e l)
 
   pub weight-small : (e k : ℕ) → e < cells q → k < cells q → Within mostWeight (weightOf q c r e k)
@@ -109,12 +103,11 @@ module _ {q : Refused} {c r : List ℤ} (h : Weighed q c r) where
     where
       go : (s : Shape) → q .shape ≡ s →
           Within mostWeight (weightBy q (factorAt c (q .n1) (q .i)) (factorAt r (q .n2) (q .j)) s e k)
-      go Line s = unfold weightBy in within-le (omega arith) (matrix-small first e k (in-line s e l) (in-line s k b))
       go Joint s =
           unfold weightBy jointWeight in
           within-*
           (matrix-small first (e / q .n2) (k / q .n2) (in-row s e l) (in-row s k b))
-          (matrix-small second (e % q .n2) (k % q .n2) (in-column s e l) (in-column s k b))
+          (matrix-small (second s) (e % q .n2) (k % q .n2) (in-column s e l) (in-column s k b))
       go Pass s =
           unfold weightBy passWeight in
           either-small (eqb (lines q .line e) (lines q .line k))
@@ -146,7 +139,6 @@ module _ {q : Refused} {c r x : List ℤ} (g : Given q c r x) (e : ℕ) (l : e <
   rounded-small rule = go (q .shape)
     where
       go : (s : Shape) → Within mostRounded (R rule (scaleBy s) (weighed (cells q) (off (weightOf q c r) e) x))
-      go Line = unfold scaleBy in within-le (omega arith) (rounded-within rule unit (omega arith) (omega arith) sum-small)
       go Joint = unfold scaleBy in within-le (omega arith) (rounded-within rule unit² (omega arith) (omega arith) sum-small)
       go Pass = unfold scaleBy in within-le (omega arith) (rounded-within rule unit (omega arith) (omega arith) sum-small)
 

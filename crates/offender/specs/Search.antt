@@ -1,60 +1,69 @@
--- THE SEARCH ALONG AN ORDER: numbers are recovered in place, one after another, until one is beyond the bound. That one is the
--- first beyond it in the list that the whole recovery leaves, for no place is recovered twice.
+-- THE SEARCH ALONG AN ORDER: numbers are made, one after another, until one is beyond the bound. Those that are recovered are put
+-- in place; none of them is recovered twice. So the one that is found is the first beyond the bound in the list that the whole
+-- stage leaves.
 use mathlib.Core.Bool.{Bool, true, false, cond}
 use mathlib.Core.List.{List, [], _∷_, _++_, append-assoc, append-nil}
 use mathlib.Core.Path.{_≡_, refl, sym, ap, _∙_}
-use Prim.Native.Nat.{ℕ, zero, suc, _+_, _<_}
+use Prim.Native.Nat.{ℕ, zero, suc, _+_, _≤_, _<_}
 use native.Mathlib.Decide.{ℕ-discrete}
 use native.Mathlib.Numerals.{add-one}
 use native.Mathlib.Omega.{arith}
 use borrow.Author.Tests.{le-leb, leb-false}
 use lib.Dec.{eqb, leb}
-use lib.IntN.{ℤ, natAbs, _-ℤ_, _*ℤ_}
+use lib.IntN.{ℤ, natAbs, _+ℤ_, _-ℤ_, _*ℤ_}
 use lib.ListN.{length, set, length-set}
 use Rattle.whole.specs.Diff.{Within}
 use Rattle.rules.specs.declared.Rule.{Rule}
 use Rattle.rules.specs.Numbers.{bound, at}
-use Rattle.rules.specs.Stages.{R, those, upTo, offender, off, weighed, recover, firstRead}
+use Rattle.rules.specs.Stages.{R, those, upTo, offender, off, weighed, fill, recover, firstRead}
 use Rattle.rules.specs.Shapes.{byTurn}
 use Rattle.rules.specs.GoodStages.{has, InOrder, end, next}
 use Rattle.rules.specs.Laws.Membership.{has-first, has-more}
-use Rattle.rules.specs.Laws.Lists.{set-at}
+use Rattle.rules.specs.Laws.Lists.{fill-at, set-at}
 use Rattle.rules.specs.Laws.Inverses.{recover-other}
 use Rattle.rules.specs.Laws.Offenders.{read-below, none-beyond, first-read}
 use Rattle.laws.specs.Tests.{apart}
 use Rattle.factor.specs.SumBounds.{Bounded, bounded-set, Kept, kept-no, kept-yes}
 
 -- ---- in reading order: none of the first e numbers is beyond the bound
-abbrev pub Clear : (ℕ → ℤ) → ℕ → Type 0
-Clear f e = (k : ℕ) → k < e → Within bound (f k)
+abbrev pub Clear : List ℤ → ℕ → Type 0
+Clear v e = (k : ℕ) → k < e → Within bound (at v k)
 
-module _ (N : ℕ) (f : ℕ → ℤ) (v : List ℤ) (is : (k : ℕ) → k < N → at v k ≡ f k) where
-  pub read-first : (e : ℕ) → e < N → Clear f e → leb (natAbs (f e)) bound ≡ false → firstRead N v ≡ e
-  read-first e l h b =
-      first-read bound v N e l (rw (is e l) (leb-false (natAbs (f e)) bound b)) (λ k m. rw (is k (omega arith)) (h k m))
+module _ (N : ℕ) (v : List ℤ) where
+  pub read-first : (e : ℕ) → e < N → Clear v e → leb (natAbs (at v e)) bound ≡ false → firstRead N v ≡ e
+  read-first e l h b = first-read bound v N e l (leb-false (natAbs (at v e)) bound b) h
 
-  pub read-none : Clear f N → firstRead N v ≡ 0
-  read-none h = none-beyond bound v (upTo N) (λ k m. let l = read-below N k m in rw (is k l) (h k l))
+  pub read-none : Clear v N → firstRead N v ≡ 0
+  read-none h = none-beyond bound v (upTo N) (λ k m. h k (read-below N k m))
 
--- ---- in a recovery order
+-- ---- the numbers that are made
 module _ (rule : Rule) (N S : ℕ) (d : ℕ → ℤ) (w : ℕ → ℕ → ℤ) where
-  -- what is put at place e
-  abbrev pub recovered : List ℤ → ℕ → ℤ
-  recovered v e = d e *ℤ (at v e -ℤ R rule S (weighed N (off w e) v))
+  -- what element e becomes; back, what it was
+  abbrev pub made : Bool → List ℤ → ℕ → ℤ
+  made back v e =
+      cond back (d e *ℤ (at v e -ℤ R rule S (weighed N (off w e) v))) ((d e *ℤ at v e) +ℤ R rule S (weighed N (off w e) v))
 
-  unfoldable pub searched : List ℕ → List ℤ → ℕ
-  searched [] v = 0
-  searched (e ∷ es) v = cond (leb (natAbs (recovered v e)) bound) (searched es (set v e (recovered v e))) e
+  unfoldable pub searched : Bool → List ℕ → List ℤ → ℕ
+  searched back [] v = 0
+  searched back (e ∷ es) v =
+      cond (leb (natAbs (made back v e)) bound) (searched back es (cond back (set v e (made back v e)) v)) e
 
-  pub searched-is : {es : List ℕ} → InOrder w es → (v : List ℤ) → ((k : ℕ) → has k es ≡ true → k < length v) →
-      searched es v ≡ offender bound es (recover rule N S d w es v)
+  pub applied-is : (es : List ℕ) (v : List ℤ) → ((k : ℕ) → has k es ≡ true → k < N) → N ≤ length v →
+      searched false es v ≡ offender bound es (fill N (made false v) v)
+  unfolding searched offender
+  applied-is [] v l room = refl
+  applied-is (e ∷ es) v l room =
+      rw (fill-at N (made false v) v e (l e (has-first e es)) room, applied-is es v (λ k m. l k (has-more k e es m)) room)
+
+  pub undone-is : {es : List ℕ} → InOrder w es → (v : List ℤ) → ((k : ℕ) → has k es ≡ true → k < length v) →
+      searched true es v ≡ offender bound es (recover rule N S d w es v)
   unfolding searched recover offender
-  searched-is end v l = refl
-  searched-is (next {e} {es} h t) v l =
-      rw (kept, searched-is t (set v e a) (λ k m. rw (length-set v e a) (l k (has-more k e es m))))
+  undone-is end v l = refl
+  undone-is (next {e} {es} h t) v l =
+      rw (kept, undone-is t (set v e a) (λ k m. rw (length-set v e a) (l k (has-more k e es m))))
     where
       a : ℤ
-      a = recovered v e
+      a = made true v e
 
       alone : (b : Bool) → has e es ≡ b → has e es ≡ false
       alone true m = absurd (h e m .0 refl)
@@ -141,17 +150,25 @@ module _ {find : List ℕ → List ℤ → ℕ} {g h : ℕ → List ℕ} (grows 
   pub step-stops : (n N : ℕ) {v x : List ℤ} {e : ℕ} → n < N → Passed find (g n) v x → Found find (h n) x e → Found find (g N) v e
   step-stops n N l p q = from-there n N l (rw (grows .more n) (found-later p q))
 
--- one element
+-- one element, applied and undone
 module _ (rule : Rule) (N S : ℕ) (d : ℕ → ℤ) (w : ℕ → ℕ → ℤ) where
-  pub went-one : {e : ℕ} {v : List ℤ} {ok : Bool} {x : List ℤ} → Bounded bound v →
-      Kept bound (recovered rule N S d w v e) e v ok x → Went (searched rule N S d w) (e ∷ []) ok e v x
+  pub went-applied : {e : ℕ} {v : List ℤ} {ok : Bool} → Bounded bound v →
+      ok ≡ leb (natAbs (made rule N S d w false v e)) bound → Went (searched rule N S d w false) (e ∷ []) ok e v v
   unfolding searched
-  went-one {e} {v} {ok} {x} h k = record {
+  went-applied {e} {v} {ok} h k = record {
+    stops = λ b. record { is = λ ks. rw (sym k ∙ b) };
+    goes = λ b. record { is = λ ks. rw (sym k ∙ b); small = h; long = refl };
+  }
+
+  pub went-undone : {e : ℕ} {v : List ℤ} {ok : Bool} {x : List ℤ} → Bounded bound v →
+      Kept bound (made rule N S d w true v e) e v ok x → Went (searched rule N S d w true) (e ∷ []) ok e v x
+  unfolding searched
+  went-undone {e} {v} {ok} {x} h k = record {
     stops = λ b. record { is = λ ks. rw (kept-no k b) };
     goes = λ b. let s = kept-yes k b in
         rw (k .put b) (record {
-          is = λ ks. rw (le-leb (natAbs (recovered rule N S d w v e)) bound (s .within));
+          is = λ ks. rw (le-leb (natAbs (made rule N S d w true v e)) bound (s .within));
           small = bounded-set v e h s;
-          long = length-set v e (recovered rule N S d w v e);
+          long = length-set v e (made rule N S d w true v e);
         });
   }

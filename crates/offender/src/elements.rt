@@ -1,12 +1,11 @@
 // One element of a stage with weights, applied and undone: its sum over all the others, rounded, and its sign. In 64 bits.
-ghost use mathlib.Core.Bool.{cond};
 ghost use mathlib.Core.Path.{_≡_};
 ghost use Prim.Native.Nat.{_<_};
 ghost use lib.IntN.{_+ℤ_, _*ℤ_};
 ghost use mir.Syntax.{w64};
 ghost use mir.Val.{SFits};
 ghost use Rattle.rules.specs.Stages.{R, off, weighed};
-ghost use Rattle.offender.specs.RefusedStages.{Weighed, Given, cells, scaleBy, weightOf, appliedOf, undoneOf};
+ghost use Rattle.offender.specs.RefusedStages.{Weighed, Given, cells, scaleBy, weightOf, madeOf};
 use crate::weights::Refused;
 use crate::weights::Shape;
 use crate::weights::cells_of;
@@ -64,7 +63,6 @@ fn rounded_sum(rule: Rule, q: Refused, col: &[i32], row: &[i32], e: usize, x: &[
     let down = is_down(rule);
     let even = is_even(rule);
     match shape {
-        Shape::Line => return round_line(down, even, s),
         Shape::Joint => return round_joint(down, even, s),
         Shape::Pass => return round_line(down, even, s),
     }
@@ -81,8 +79,7 @@ pub fn element_at(
     x: &[i32],
 ) -> i64
     requires { ⌜ Given q (now col) (now row) (now x) × (e < cells q) ⌝ }
-    ensures { λ r. ⌜ r ≡ cond back (undoneOf rule q (now (col .entry)) (now (row .entry)) (now (x .entry)) e)
-        (appliedOf rule q (now (col .entry)) (now (row .entry)) (now (x .entry)) e) ⌝ }
+    ensures { λ r. ⌜ r ≡ madeOf rule back q (now (col .entry)) (now (row .entry)) (now (x .entry)) e ⌝ }
 {
     let d = sign_at(q, col, row, e);
     let s = rounded_sum(rule, q, col, row, e, x);

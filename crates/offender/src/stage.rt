@@ -11,14 +11,26 @@ ghost use Rattle.factor.specs.LayoutInSheet.{Paired};
 ghost use Rattle.factor.specs.PassLines.{linesBy};
 ghost use Rattle.factor.specs.Tasks.{limitOf, nameAfter, takenBy};
 ghost use Rattle.offender.specs.RefusedStages.{Placed, cells, stageOf};
-use crate::search::first_applied;
-use crate::search::first_undone;
+ghost use Rattle.offender.specs.NamedElements.{isNaming};
+use crate::search::first_found;
 use crate::weights::Refused;
 use crate::weights::Shape;
 use factor::is_move;
 use factor::layout_at;
 use factor::run::Run;
 use factor::run::Task;
+use factor::run::is_inverse;
+
+// Whether a run of a task names an element: an allowance has none.
+fn is_naming(task: Task) -> bool
+    ensures { λ r. ⌜ r ≡ isNaming task ⌝ }
+{
+    match task {
+        Task::Forward => return true,
+        Task::Inverse => return true,
+        Task::Allowance => return false,
+    }
+}
 
 // Moved numbers stay in bound, so a permutation is never refused; nor is an element of an allowance ever named.
 fn element(run: Run, q: Refused, col: &[i32], row: &[i32], x: &mut [i32]) -> usize
@@ -33,33 +45,13 @@ fn element(run: Run, q: Refused, col: &[i32], row: &[i32], x: &mut [i32]) -> usi
     if is_move(layout_at(col, n, i)) {
         return 0;
     }
-    match task {
-        Task::Forward => return first_applied(rule, q, col, row, x),
-        Task::Inverse => return first_undone(rule, q, col, row, x),
-        Task::Allowance => return 0,
+    if !is_naming(task) {
+        return 0;
     }
+    first_found(is_inverse(task), rule, q, col, row, x)
 }
 
-// A stage of a line that is refused, and the block before it: the element that the answer names. The block is used up.
-pub fn line_element(run: Run, sheet: &[i32], n: usize, i: usize, x: &mut [i32]) -> usize
-    requires { ⌜ (1 ≤ n) × (n ≤ mostOrder) × FactorRead (now sheet) n i × Bounded (limitOf (run .task)) (now x)
-        × (n ≤ length (now x)) ⌝ }
-    ensures { λ r. ⌜ r ≡ nameAfter (run .task) n (lineStage n (factorAt (now (sheet .entry)) n i))
-        (takenBy run n (lineStage n (factorAt (now (sheet .entry)) n i)) (now (x .entry))) ⌝ }
-{
-    let q = Refused {
-        shape: Shape::Line,
-        n1: n,
-        n2: n,
-        i,
-        j: i,
-        down: false,
-        many: 1,
-    };
-    element(run, q, sheet, sheet, x)
-}
-
-// The same of a rectangle.
+// A stage of a rectangle that is refused, and the block before it: the element that the answer names. The block is used up.
 pub fn joint_element(
     run: Run,
     col: &[i32],
@@ -79,12 +71,11 @@ pub fn joint_element(
 {
     let q = Refused {
         shape: Shape::Joint,
+        down: false,
         n1,
         n2,
         i,
         j,
-        down: false,
-        many: 1,
     };
     element(run, q, col, row, x)
 }
@@ -107,12 +98,21 @@ pub fn pass_element(
 {
     let q = Refused {
         shape: Shape::Pass,
+        down: columns,
         n1: n,
-        n2: n,
+        n2: many,
         i,
         j: i,
-        down: columns,
-        many,
     };
     element(run, q, sheet, sheet, x)
+}
+
+// The same of a line: a pass along one row.
+pub fn line_element(run: Run, sheet: &[i32], n: usize, i: usize, x: &mut [i32]) -> usize
+    requires { ⌜ (1 ≤ n) × (n ≤ mostOrder) × FactorRead (now sheet) n i × Bounded (limitOf (run .task)) (now x)
+        × (n ≤ length (now x)) ⌝ }
+    ensures { λ r. ⌜ r ≡ nameAfter (run .task) n (lineStage n (factorAt (now (sheet .entry)) n i))
+        (takenBy run n (lineStage n (factorAt (now (sheet .entry)) n i)) (now (x .entry))) ⌝ }
+{
+    pass_element(false, run, sheet, n, 1, i, x)
 }

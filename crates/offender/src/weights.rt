@@ -13,7 +13,8 @@ ghost use Rattle.rules.specs.Sheets.{kindOf};
 ghost use Rattle.rules.specs.Factors.{hasEntry, entriesBefore, factorAt, matrix};
 ghost use Rattle.rules.specs.Shapes.{turn, inRow, jointShared, passWeight, passTurn};
 ghost use Rattle.laws.specs.Accepted.{FactorRead};
-ghost use Rattle.offender.specs.RefusedStages.{Small, Placed, HasWeights, Weighed, lines, cells, turns};
+ghost use Rattle.factor.specs.LayoutInSheet.{Paired};
+ghost use Rattle.offender.specs.RefusedStages.{Small, HasWeights, Weighed, lines, cells, turns};
 ghost use Rattle.offender.specs.RefusedStages.{signOf, weightOf, turnOf};
 use factor::before_lower;
 use factor::before_upper;
@@ -22,23 +23,21 @@ use factor::layout_at;
 use rules::Kind;
 use rules::Scale;
 
-// What a stage is made of: a factor of a line, a pair of factors of a rectangle, or a factor along every line of a rectangle.
+// What a stage is made of: a pair of factors of a rectangle, or a factor along every line of one.
 pub enum Shape {
-    Line,
     Joint,
     Pass,
 }
 
-// The stage that is refused: its shape, and the orders and the places of its factors in the two sheets. A line and a pass have
-// one sheet and one factor, which stands twice here. A pass has many lines, the columns or the rows; any other shape has one.
+// The stage that is refused: its shape, and the orders and the places of its factors in the two sheets. A pass has one factor, of
+// n1 numbers, along n2 lines, which go down or are rows; its place stands twice here.
 pub struct Refused {
     pub shape: Shape,
+    pub down: bool,
     pub n1: usize,
     pub n2: usize,
     pub i: usize,
     pub j: usize,
-    pub down: bool,
-    pub many: usize,
 }
 
 // Whether a factor has an entry in row m, column k, off the diagonal.
@@ -121,43 +120,44 @@ pub fn cells_of(q: Refused) -> usize
 {
     let shape = q.shape;
     match shape {
-        Shape::Line => return q.n1,
         Shape::Joint => return q.n1 * q.n2,
-        Shape::Pass => return q.many * q.n1,
+        Shape::Pass => return q.n2 * q.n1,
     }
 }
 
-// How many turns its recovery has.
-pub fn turns_of(q: Refused) -> usize
+// How many turns its elements are looked at in: back those of the recovery, else one.
+pub fn turns_of(back: bool, q: Refused) -> usize
     requires { ⌜ Small q ⌝ }
-    ensures { λ r. ⌜ r ≡ turns q ⌝ }
+    ensures { λ r. ⌜ r ≡ turns back q ⌝ }
 {
+    if !back {
+        return 1;
+    }
     let shape = q.shape;
     match shape {
-        Shape::Line => return q.n1 + 4,
         Shape::Joint => return q.n1 * q.n2 + 4,
-        Shape::Pass => return q.many * (q.n1 + 4),
+        Shape::Pass => return q.n2 * (q.n1 + 4),
     }
 }
 
 // The line of a pass in which element e is.
 fn line_of(q: Refused, e: usize) -> usize
-    requires { ⌜ (1 ≤ q .n1) × (1 ≤ q .many) ⌝ }
+    requires { ⌜ (1 ≤ q .n1) × (1 ≤ q .n2) ⌝ }
     ensures { λ r. ⌜ r ≡ lines q .line e ⌝ }
 {
     if q.down {
-        return e % q.many;
+        return e % q.n2;
     }
     e / q.n1
 }
 
 // Its place in that line.
 fn spot_of(q: Refused, e: usize) -> usize
-    requires { ⌜ (1 ≤ q .n1) × (1 ≤ q .many) ⌝ }
+    requires { ⌜ (1 ≤ q .n1) × (1 ≤ q .n2) ⌝ }
     ensures { λ r. ⌜ r ≡ lines q .spot e ⌝ }
 {
     if q.down {
-        return e / q.many;
+        return e / q.n2;
     }
     e % q.n1
 }
@@ -170,7 +170,6 @@ pub fn sign_at(q: Refused, col: &[i32], row: &[i32], e: usize) -> i32
     let shape = q.shape;
     let n = q.n2;
     match shape {
-        Shape::Line => return sign_of(col, q.n1, q.i, e),
         Shape::Joint => {
             return both_signs(sign_of(col, q.n1, q.i, e / n), sign_of(row, n, q.j, e % n));
         }
@@ -180,8 +179,8 @@ pub fn sign_at(q: Refused, col: &[i32], row: &[i32], e: usize) -> i32
 
 // The weight of element k in the sum of element e of a pass: of its own line.
 fn pass_weight(q: Refused, sheet: &[i32], e: usize, k: usize) -> i64
-    requires { ⌜ HasWeights (now sheet) (q .n1) (q .i) × (1 ≤ q .n1) × (1 ≤ q .many) × (e < q .many * q .n1)
-        × (k < q .many * q .n1) ⌝ }
+    requires { ⌜ HasWeights (now sheet) (q .n1) (q .i) × (1 ≤ q .n1) × (1 ≤ q .n2) × (e < q .n2 * q .n1)
+        × (k < q .n2 * q .n1) ⌝ }
     ensures { λ r. ⌜ r ≡ passWeight (lines q) (factorAt (now (sheet .entry)) (q .n1) (q .i)) e k ⌝ }
 {
     if line_of(q, e) != line_of(q, k) {
@@ -198,7 +197,6 @@ pub fn weight_at(q: Refused, col: &[i32], row: &[i32], e: usize, k: usize) -> i6
     let shape = q.shape;
     let n = q.n2;
     match shape {
-        Shape::Line => return matrix_at(col, q.n1, q.i, e, k),
         Shape::Joint => {
             return product(
                 matrix_at(col, q.n1, q.i, e / n, k / n),
@@ -244,7 +242,7 @@ fn line_turn(sheet: &[i32], n: usize, i: usize, m: usize) -> usize
 
 // In a rectangle.
 fn joint_turn(q: Refused, col: &[i32], row: &[i32], e: usize) -> usize
-    requires { ⌜ Placed q (now col) (now row) × (e < q .n1 * q .n2) ⌝ }
+    requires { ⌜ Paired (now col) (now row) (q .n1) (q .n2) (q .i) (q .j) × (e < q .n1 * q .n2) ⌝ }
     ensures { λ r. ⌜ r ≡ turn (kindOf (count (now (col .entry)) (q .i))) (q .n1 * q .n2)
         (jointShared (q .n1) (q .n2) (factorAt (now (col .entry)) (q .n1) (q .i)) (factorAt (now (row .entry)) (q .n2) (q .j)) e)
         e ⌝ }
@@ -263,20 +261,22 @@ fn joint_turn(q: Refused, col: &[i32], row: &[i32], e: usize) -> usize
 
 // In a pass: line after line.
 fn pass_turn(q: Refused, sheet: &[i32], e: usize) -> usize
-    requires { ⌜ Small q × FactorRead (now sheet) (q .n1) (q .i) × (1 ≤ q .n1) × (1 ≤ q .many) × (e < q .many * q .n1) ⌝ }
+    requires { ⌜ Small q × FactorRead (now sheet) (q .n1) (q .i) × (1 ≤ q .n1) × (1 ≤ q .n2) × (e < q .n2 * q .n1) ⌝ }
     ensures { λ r. ⌜ r ≡ passTurn (lines q) (factorAt (now (sheet .entry)) (q .n1) (q .i)) e ⌝ }
 {
     line_of(q, e) * (q.n1 + 4) + line_turn(sheet, q.n1, q.i, spot_of(q, e))
 }
 
-// The turn in which element e is recovered.
-pub fn turn_at(q: Refused, col: &[i32], row: &[i32], e: usize) -> usize
+// The turn in which element e is looked at.
+pub fn turn_at(back: bool, q: Refused, col: &[i32], row: &[i32], e: usize) -> usize
     requires { ⌜ Weighed q (now col) (now row) × (e < cells q) ⌝ }
-    ensures { λ r. ⌜ r ≡ turnOf q (now (col .entry)) (now (row .entry)) e ⌝ }
+    ensures { λ r. ⌜ r ≡ turnOf back q (now (col .entry)) (now (row .entry)) e ⌝ }
 {
+    if !back {
+        return 0;
+    }
     let shape = q.shape;
     match shape {
-        Shape::Line => return line_turn(col, q.n1, q.i, e),
         Shape::Joint => return joint_turn(q, col, row, e),
         Shape::Pass => return pass_turn(q, col, e),
     }

@@ -9,7 +9,7 @@ use Rattle.whole.specs.Machine.{fits, reads, back, within-+, within--, sign-wit
 use Rattle.whole.specs.Stated.{Sign}
 use Rattle.rules.specs.Numbers.{bound, at}
 use Rattle.rules.specs.Stages.{R, off, weighed}
-use Rattle.offender.specs.RefusedStages.{cells, scaleBy, signOf, weightOf, appliedOf}
+use Rattle.offender.specs.RefusedStages.{cells, scaleBy, signOf, weightOf}
 use Rattle.offender.specs.RefusedBounds.{mostRounded, sign-one, rounded-small}
 use Rattle.offender.proofs.elements.element_at.Statement.{statement}
 use Rattle.offender.proofs.elements.element_at.Tie as tie
@@ -85,7 +85,6 @@ applied-requires c κs =
     (fits (sign-within (d-is s)) tt, fits (x-small s) tt, fits y tt, fits (within-+ y (s-small s)) tt)
 
 returns-2 : tie.Need-returns-2
-unfolding appliedOf
 returns-2 c =
     let t = c .before .before in
     let r = t .before in

@@ -36,8 +36,8 @@ roundable c =
 enum-told : tie.Need-enum-told
 enum-told c = search needs
 
-round-line-requires : tie.Need-round-line-requires
-round-line-requires c κs = roundable (c .before .before .before .before)
+round-joint-requires : tie.Need-round-joint-requires
+round-joint-requires c κs = roundable (c .before .before .before .before)
 
 returns : tie.Need-returns
 unfolding scaleBy
@@ -45,15 +45,15 @@ returns c =
     let e = c .before .before .before in
     let o = e .before .before in
     rw (ap scaleBy (c .before .enum-told .given .1))
-    (back w64 _ (c .round-line .ok)
+    (back w64 _ (c .round-joint .ok)
     ∙ (rw (sum o, e .before .is-down .ensures, e .is-even .ensures, by-tests (o .before .args .rule)) at
-    (c .round-line .ensures .0)))
+    (c .round-joint .ensures .0)))
 
 enum-told-2 : tie.Need-enum-told-2
 enum-told-2 c = search needs
 
-round-joint-requires : tie.Need-round-joint-requires
-round-joint-requires c κs = roundable (c .before .before .before .before)
+round-line-requires : tie.Need-round-line-requires
+round-line-requires c κs = roundable (c .before .before .before .before)
 
 returns-2 : tie.Need-returns-2
 unfolding scaleBy
@@ -61,28 +61,12 @@ returns-2 c =
     let e = c .before .before .before in
     let o = e .before .before in
     rw (ap scaleBy (c .before .enum-told2 .given .1))
-    (back w64 _ (c .round-joint .ok)
+    (back w64 _ (c .round-line .ok)
     ∙ (rw (sum o, e .before .is-down .ensures, e .is-even .ensures, by-tests (o .before .args .rule)) at
-    (c .round-joint .ensures .0)))
-
-enum-told-3 : tie.Need-enum-told-3
-enum-told-3 c = search needs
-
-round-line-requires-2 : tie.Need-round-line-requires-2
-round-line-requires-2 c κs = roundable (c .before .before .before .before)
-
-returns-3 : tie.Need-returns-3
-unfolding scaleBy
-returns-3 c =
-    let e = c .before .before .before in
-    let o = e .before .before in
-    rw (ap scaleBy (c .before .enum-told3 .given .1))
-    (back w64 _ (c .round-line2 .ok)
-    ∙ (rw (sum o, e .before .is-down .ensures, e .is-even .ensures, by-tests (o .before .args .rule)) at
-    (c .round-line2 .ensures .0)))
+    (c .round-line .ensures .0)))
 
 pub rounded-sum-spec : {M : Type 1} → statement M
 rounded-sum-spec =
     tie.close
-    (tie.spec off-sum-requires is-down-requires is-even-requires enum-told round-line-requires returns enum-told-2
-    round-joint-requires returns-2 enum-told-3 round-line-requires-2 returns-3)
+    (tie.spec off-sum-requires is-down-requires is-even-requires enum-told
+    round-joint-requires returns enum-told-2 round-line-requires returns-2)

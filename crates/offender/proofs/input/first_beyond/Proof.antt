@@ -1,7 +1,7 @@
 -- None of the first e numbers was beyond the bound (`Clear`).
 use borrow.Author.Count.{below-none, below-more}
 use borrow.Author.Tests.{not-true, not-false}
-use mathlib.Core.Path.{_≡_, refl, sym, _∙_}
+use mathlib.Core.Path.{_≡_, sym, _∙_}
 use Prim.Native.Nat.{_-_}
 use native.Mathlib.Omega.{arith}
 use mir.Syntax.{w32, w64}
@@ -14,7 +14,7 @@ use Rattle.offender.proofs.input.first_beyond.Statement.{statement}
 use Rattle.offender.proofs.input.first_beyond.Tie as tie
 
 abbrev Inv-loop : tie.InvT-loop
-Inv-loop x n e₀ e = Clear (at x) e
+Inv-loop x n e₀ e = Clear x e
 
 abbrev μ-loop : tie.MeasureT-loop
 μ-loop x n e₀ e = n - e
@@ -46,7 +46,7 @@ returns c =
     let w = c .before .before in
     let l = w .before .before .before in
     sym
-    (read-first _ _ _ (λ k b. refl) (l .loop .e) (omega arith) (l .loop .inv)
+    (read-first _ _ (l .loop .e) (omega arith) (l .loop .inv)
     (test-no bound (value w) (c .before .is-within .ensures) (not-true _ (c .if1 .taken))))
 
 add-e : tie.Need-add-e Inv-loop μ-loop
@@ -62,7 +62,7 @@ loop-again c =
     below-more _ _ (l .loop .inv) (test-yes bound (value w) (c .before .is-within .ensures) (not-false _ (c .if1 .left)))
 
 returns-2 : tie.Need-returns-2 Inv-loop μ-loop
-returns-2 c = let l = c .before .loop in sym (read-none _ _ _ (λ k b. refl) (λ k b. l .inv k (omega arith)))
+returns-2 c = let l = c .before .loop in sym (read-none _ _ (λ k b. l .inv k (omega arith)))
 
 pub first-beyond-spec : {M : Type 1} → statement M
 first-beyond-spec =

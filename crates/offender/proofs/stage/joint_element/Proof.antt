@@ -1,6 +1,5 @@
 -- A pair of factors.
 use borrow.Author.Needs.{needs}
-use native.Mathlib.Omega.{arith}
 use Rattle.offender.specs.RefusedStages.{cellsBy, stageShaped}
 use Rattle.offender.proofs.stage.joint_element.Statement.{statement}
 use Rattle.offender.proofs.stage.joint_element.Tie as tie
@@ -8,7 +7,19 @@ use Rattle.offender.proofs.stage.joint_element.Tie as tie
 element-requires : tie.Need-element-requires
 unfolding cellsBy
 element-requires c κs =
-    let p = c .before .pre in (record { pair = p .0; some = omega arith; most = omega arith }, p .1, p .2)
+    let p = c .before .pre in
+    let h = p .0 in (
+      record {
+        some1 = h .some1;
+        most1 = h .most1;
+        column = h .column;
+        some2 = h .some2;
+        most2 = h .most2;
+        pair = λ e. h;
+      },
+      p .1,
+      p .2,
+    )
 
 same-length : tie.Need-same-length
 same-length c = search needs

@@ -1,26 +1,27 @@
--- A line's factor, with itself for a partner.
+-- A line is a pass along one row (`one-row`).
 use borrow.Author.Needs.{needs}
+use mathlib.Core.Path.{_∙_}
 use native.Mathlib.Omega.{arith}
-use Rattle.offender.specs.RefusedStages.{cellsBy, stageShaped}
-use Rattle.offender.specs.NamedElements.{alone}
+use Rattle.rules.specs.Factors.{factorAt}
+use Rattle.laws.specs.Sound.{factor-sound}
+use Rattle.offender.specs.OneRow.{one-row}
 use Rattle.offender.proofs.stage.line_element.Statement.{statement}
 use Rattle.offender.proofs.stage.line_element.Tie as tie
 
-element-requires : tie.Need-element-requires
-unfolding cellsBy
-element-requires c κs =
-    let p = c .before .pre in (
-      record { pair = alone (p .0) (p .1) (p .2); some = omega arith; most = omega arith },
-      p .3,
-      p .4,
-    )
+pass-element-requires : tie.Need-pass-element-requires
+pass-element-requires c κs =
+    let p = c .before .pre in
+    let room = p .4 in (p .0, p .1, omega arith, omega arith, p .2, p .3, omega arith)
 
 same-length : tie.Need-same-length
 same-length c = search needs
 
 returns : tie.Need-returns
-unfolding cellsBy stageShaped
-returns c = c .before .element .ensures
+returns c =
+    let s = c .before .before .before in
+    let a = s .args in
+    c .before .pass-element .ensures
+    ∙ one-row (a .n) (factorAt (a .sheet .now) (a .n) (a .i)) (factor-sound (s .pre .2)) (a .run .task) (a .run .rule) (s .pre .3)
 
 pub line-element-spec : {M : Type 1} → statement M
-line-element-spec = tie.close (tie.spec element-requires same-length returns)
+line-element-spec = tie.close (tie.spec pass-element-requires same-length returns)

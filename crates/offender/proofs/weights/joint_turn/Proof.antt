@@ -14,7 +14,7 @@ layout-at-requires-2 : tie.Need-layout-at-requires-2
 layout-at-requires-2 c κs = search needs
 
 mul-turn-of : tie.Need-mul-turn-of
-mul-turn-of c = let p = c .before .before .before .pre .0 .pair in omega (arith, mul-le-mul (p .most1) (p .most2))
+mul-turn-of c = let p = c .before .before .before .pre .0 in omega (arith, mul-le-mul (p .most1) (p .most2))
 
 div-in-row : tie.Need-div-in-row
 div-in-row c = search needs
@@ -44,7 +44,7 @@ returns c =
     let s = g .before .before in
     c .turn-of .ensures
     ∙ (rw (b .before .in-row .ensures .0, b .in-row2 .ensures .0)
-    (joint-turn (s .pre .0 .pair) (g .before .layout-at .ensures) (g .layout-at2 .ensures) (s .args .e)))
+    (joint-turn (s .pre .0) (g .before .layout-at .ensures) (g .layout-at2 .ensures) (s .args .e)))
 
 pub joint-turn-spec : {M : Type 1} → statement M
 joint-turn-spec =

@@ -21,7 +21,7 @@ before : (c : tie.After-line-of) → c .line-of .result * (c .before .args .q .n
 before c =
     let s = c .before in
     let n = s .pre .0 .0 in
-    let m = s .pre .0 .2 in
+    let m = s .pre .0 .1 in
     let b = line-below (s .args .q) (s .args .e) (s .pre .4) in
     let l : c .line-of .result ≤ mostOrder = omega (arith, c .line-of .ensures) in
     let k : s .args .q .n1 + 4 ≤ mostOrder + 4 = omega arith in mul-le-mul l k
