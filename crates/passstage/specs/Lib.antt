@@ -1,5 +1,6 @@
 pub mod Lanes
 pub mod LaneSteps
 pub mod LaneLaws
+pub mod FilledLines
 pub mod RowLaws
 pub mod StageLaws
