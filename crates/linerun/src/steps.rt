@@ -87,7 +87,7 @@ fn magnitude_sum_at(sheet: &[i32], r: Row, m: usize, b: &[i32; Block::LINE]) -> 
 }
 
 // What the allowance of element m becomes.
-fn allowed_at(rule: Rule, sheet: &[i32], f: Layout, m: usize, b: &[i32; Block::LINE]) -> i64
+pub fn allowed_at(rule: Rule, sheet: &[i32], f: Layout, m: usize, b: &[i32; Block::LINE]) -> i64
     requires { ⌜ InSheet (now sheet) f × (m < f .order) × Bounded mostAllowance (now b) ⌝ }
     ensures { λ r. ⌜ r ≡ allowedAt rule (now (sheet .entry)) f (now (b .entry)) m ⌝ }
 {

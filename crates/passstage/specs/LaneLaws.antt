@@ -102,23 +102,6 @@ scattered-bounded zero q g h w = h
 scattered-bounded (suc n) q g {x} h w =
     bounded-set (scattered n q g x) (q n) (scattered-bounded n q g h (λ m l. w m (omega arith))) (w n (omega arith))
 
--- a line put back whole
-pub line-put : {B l : ℕ} {v x : List ℤ} → l < mostOrder → length x ≡ mostCells → length v ≡ mostOrder → Bounded B x →
-    Bounded B v → LineSet B l v x (scattered mostOrder (λ m. l + m * mostOrder) (at v) x)
-line-put {B} {l} {v} {x} a long whole h k = record {
-  line = lane-line l mostOrder (λ m. m) (at v) x a long (λ m b. b) ∙ all;
-  others = lane-beside l mostOrder (λ m. m) (at v) x a;
-  small = scattered-bounded mostOrder _ (at v) h (λ m b. k .small m);
-  long = length-scattered mostOrder _ (at v) x ∙ long;
-}
-  where
-    all : scattered mostOrder (λ m. m) (at v) (lane l x) ≡ v
-    all =
-        let e = length-scattered mostOrder (λ m. m) (at v) (lane l x) ∙ length-lane l x in
-        ext-getD (pos 0) _ _ (e ∙ sym whole)
-        (λ k b. scattered-at mostOrder (λ m. m) (at v) (lane l x) (λ m c. omega (arith, length-lane l x)) (λ i j c d q. q) k
-        (omega arith))
-
 -- a line moved
 pub line-moved : {B l n : ℕ} {p : ℕ → ℕ} {x : List ℤ} (back : Bool) → l < mostOrder → length x ≡ mostCells → n ≤ mostOrder →
     Permutes n p → Bounded B x → LineSet B l (movedBy back n p (lane l x)) x (movedLine back n p l mostOrder x)

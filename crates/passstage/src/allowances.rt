@@ -1,28 +1,18 @@
-// A factor with weights on allowances: a line at a time, by the line's own code. Nobody waits for allowances.
+// A factor with weights on allowances: a line at a time, each number by the line's own code. Nobody waits for allowances.
 ghost use mathlib.Core.Path.{_≡_};
-ghost use Prim.Native.Nat.{_+_, _*_, _≤_, _<_};
+ghost use Prim.Native.Nat.{_≤_, _<_};
 ghost use lib.ListN.{length};
-ghost use Rattle.rules.specs.Numbers.{mostOrder, mostCells, mostAllowance, at};
+ghost use Rattle.rules.specs.Numbers.{mostOrder, mostCells, mostAllowance};
 ghost use Rattle.factor.specs.SumBounds.{Bounded};
 ghost use Rattle.factor.specs.LayoutInSheet.{InSheet};
-ghost use Rattle.factor.specs.MovedInPlace.{scattered};
 ghost use Rattle.passstage.specs.Lanes.{lane};
 ghost use Rattle.passstage.specs.LaneSteps.{lineAllowed, LineMade, LinesMade};
 use factor::Layout;
+use factor::bounds::keep;
 use factor::moves::copy_line;
-use linerun::steps::allow_weights;
+use linerun::steps::allowed_at;
 use rules::Block;
 use rules::Rule;
-
-// A line back into its places.
-fn put_line(v: &[i32; Block::LINE], l: usize, x: &mut [i32; Block::CELLS])
-    requires { ⌜ l < mostOrder ⌝ }
-    ensures { λ _. ⌜ now (x .exit) ≡ scattered mostOrder (λ m. l + m * mostOrder) (at (now (v .entry))) (now (x .entry)) ⌝ }
-{
-    for m in 0..Block::LINE {
-        x[l + m * Block::LINE] = v[m];
-    }
-}
 
 // The allowances of line l. Answers whether they are all within the limit.
 fn allow_line(rule: Rule, sheet: &[i32], f: Layout, l: usize, x: &mut [i32; Block::CELLS]) -> bool
@@ -30,13 +20,15 @@ fn allow_line(rule: Rule, sheet: &[i32], f: Layout, l: usize, x: &mut [i32; Bloc
     ensures { λ ok. ⌜ LineMade mostAllowance (f .order) l (lineAllowed rule (now (sheet .entry)) f (lane l (now (x .entry))))
         (now (x .entry)) (now (x .exit)) ok ⌝ }
 {
+    let n = f.order;
     let mut v = [0i32; Block::LINE];
     copy_line(x, Block::LINE, l, Block::LINE, &mut v);
-    let r = allow_weights(rule, sheet, f, v);
-    if !r.outcome.ok {
-        return false;
+    for m in 0..n {
+        let z = allowed_at(rule, sheet, f, m, &v);
+        if !keep(z, Block::ALLOWANCE, x, l + m * Block::LINE) {
+            return false;
+        }
     }
-    put_line(&r.block, l, x);
     true
 }
 
