@@ -18,11 +18,10 @@ use Rattle.sheetread.specs.Starts.{Starts}
 use Rattle.factor.specs.declared.run.Run.{Run}
 use Rattle.factor.specs.declared.run.Outcome.{Outcome}
 use Rattle.factor.specs.SumBounds.{Bounded}
-use Rattle.factor.specs.StageLoops.{Refused}
-use Rattle.factor.specs.Tasks.{isInverse, inputsOf, numberOf, endAnswer, takenBy, nameAfter, ran}
+use Rattle.factor.specs.Tasks.{isInverse, limitOf, inputsOf, numberOf, endAnswer, takenBy, nameAfter, ran}
 use Rattle.factor.specs.PassLines.{linesBy}
 use Rattle.passrun.specs.Laid.{laid}
-use Rattle.passrun.specs.PassRuns.{stageInTurn, passRun}
+use Rattle.passrun.specs.PassRuns.{stageInTurn, passRun, PassProgress, Reached}
 
 -- the other direction
 unfoldable pub other : Bool → Bool
@@ -134,8 +133,17 @@ pub record PassAsks (columns : Bool) (run : Run) (s : List ℤ) (starts : List �
   pub input : length x ≡ inputsOf (run .task) (oneSize columns many s)
   pub inner : inside bound (length x) x ≡ true
 
--- how it ends
-pub record OneEnded (columns : Bool) (run : Run) (s : List ℤ) (many : ℕ) (x : List ℤ) (end : Outcome) (b : List ℤ) : Type 0 where
-  pub takes : end .ok ≡ true → oneRun columns run s many x ≡ done (laid (oneSize columns many s) (oneLines columns many s) b)
-  pub stops : end .ok ≡ false → (1 ≤ end .stage) × (end .stage ≤ count s 1) × Refused (oneRun columns run s many x) (end .stage)
+-- its first `to` stages
+pub record OneDone (columns : Bool) (run : Run) (s : List ℤ) (many : ℕ) (x : List ℤ) (to : ℕ) (end : Outcome) (b : List ℤ) :
+    Type 0 where
+  pub reached : Reached run (oneSize columns many s) (oneLines columns many s) s (oneRun columns run s many x) to end
+      (laid (oneSize columns many s) (oneLines columns many s) b)
+  pub small : end .ok ≡ true → Bounded (limitOf (run .task)) b
   pub wide : length b ≡ mostCells
+
+-- the first `to` stages of a second pass, along w lines: the block x has them the other way round, as lines of the first pass
+pub record TurnedDone (run : Run) (s : List ℤ) (w to : ℕ) (x : List ℤ) (end : Outcome) (y : List ℤ) : Type 0 where
+  pub passes : (down : Bool) → let N = sizeBy down (count s 0) w in
+      PassProgress run N (oneLines (other down) w s) s to (laid N (linesBy down (count s 0) w) x) end (laid N (oneLines (other down) w s) y)
+  pub small : end .ok ≡ true → Bounded (limitOf (run .task)) y
+  pub wide : length y ≡ mostCells

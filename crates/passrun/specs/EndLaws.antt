@@ -32,10 +32,10 @@ use Rattle.factor.specs.PassLines.{linesBy}
 use Rattle.factor.specs.RunReplies.{noted}
 use Rattle.sheetread.specs.Starts.{Starts}
 use Rattle.passrun.specs.Laid.{laid, laid-bounded}
-use Rattle.passrun.specs.Layout.{turned, turned-bounded, length-turned}
-use Rattle.passrun.specs.PassRuns.{LinesOf, passRun, PassStands, PassDone, pass-starts, pass-ends, again-small, again-named}
+use Rattle.passrun.specs.Layout.{turned}
+use Rattle.passrun.specs.PassRuns.{passRun, PassDone, pass-starts, pass-ends, Reached, reaches, refused-passes, names-next}
 use Rattle.passrun.specs.BlockRuns.{other, startBlock, oneLines, oneRun, twoSize, firstStages, secondStages, twoStages}
-use Rattle.passrun.specs.BlockRuns.{sizeBy, oneSize, LaidIn, PassAsks, OneEnded, namedInPass}
+use Rattle.passrun.specs.BlockRuns.{sizeBy, LaidIn, PassAsks, OneDone, TurnedDone, namedInPass}
 use Rattle.passrun.specs.Blocks.{start-all, start-none, sizes-turn, lines-of, turned-laid}
 
 -- ---- the block that the run starts from
@@ -166,100 +166,81 @@ module _ (columns : Bool) (run : Run) {a z : List ℤ} {first second : List ℕ}
   }
 
   -- refused in the first pass
-  pub ended-first : {end : Outcome} {b : List ℤ} → end .ok ≡ false → OneEnded columns run a (count z 0) x end b →
+  pub ended-first : {end : Outcome} {b : List ℤ} → end .ok ≡ false → OneDone columns run a (count z 0) x (count a 1) end b →
       TwoEnded columns run a z x end b
   ended-first {end} {b} o d =
-      let s = d .stops o in
-      let f = s .2 in
+      let s = d .reached .stops o in
       record {
         takes = λ e. apart (sym e ∙ o);
         stops = λ e. record {
           some = s .0;
           most = let m = s .1 in omega arith;
-          early = λ l. f;
+          early = λ l. s .2;
           late = λ l. let m = s .1 in absurd (omega arith);
         };
         wide = d .wide;
       }
 
-  -- the second pass, on what the first gave, turned
+  -- the second pass, on what the first gave
   module _ {b : List ℤ} (g : oneRun columns run a (count z 0) x ≡ done (laid (twoSize columns a z) (oneLines columns (count z 0) a) b))
-      (small : Bounded (limitOf (run .task)) b) (wide : length b ≡ mostCells) (k : ℕ) (few : k ≤ mostOrder) (left : count a 0 ≤ k)
-      (right : count z 0 ≤ k) {c : List ℤ} (turns : c ≡ turned k b) where
+      (small : Bounded (limitOf (run .task)) b) {to : ℕ} {end : Outcome} {d : List ℤ} (q : TurnedDone run z (count a 0) to b end d) where
     abbrev N : ℕ
     N = twoSize columns a z
 
-    abbrev r : Lines
-    r = oneLines (other columns) (count a 0) z
-
-    pub turned-small : Bounded (limitOf (run .task)) c
-    turned-small = rw turns (turned-bounded k small)
-
-    pub turned-wide : length c ≡ mostCells
-    turned-wide = ap length turns ∙ length-turned k b ∙ wide
-
-    lines : LinesOf (twoSize columns a z) (oneLines (other columns) (count a 0) z) z (count a 0)
-    lines = rw (sizes-turn columns (count z 0) (count a 0)) at (lines-of (other columns) (count a 0) (h .next) (accepted-order (h .one) .most))
-
-    same : laid (twoSize columns a z) (oneLines (other columns) (count a 0) z) c
-        ≡ laid (twoSize columns a z) (oneLines columns (count z 0) a) b
-    same = ap (laid N r) turns ∙ turned-laid columns (count z 0) (count a 0) k b wide few right left
-
-    stands : PassStands run (twoSize columns a z) (oneLines (other columns) (count a 0) z) z
+    second-reaches : Reached run (twoSize columns a z) (oneLines (other columns) (count a 0) z) z
         (passRun run (twoSize columns a z) (oneLines (other columns) (count a 0) z) z
-        (laid (twoSize columns a z) (oneLines columns (count z 0) a) b)) 0
-        (laid (twoSize columns a z) (oneLines (other columns) (count a 0) z) c)
-    stands = rw same (pass-starts run N r z (laid-bounded N (oneLines columns (count z 0) a) small))
+        (laid (twoSize columns a z) (oneLines columns (count z 0) a) b)) to end
+        (laid (twoSize columns a z) (oneLines (other columns) (count a 0) z) d)
+    second-reaches =
+        let r = oneLines (other columns) (count a 0) z in
+        reaches run N r z (q .passes columns) (pass-starts run N r z (laid-bounded N (oneLines columns (count z 0) a) small))
 
-    pub ended-second : {end : Outcome} {d : List ℤ} → PassDone run z (count a 0) (count z 1) c end d →
-        {last : Outcome} → last .ok ≡ end .ok → (end .ok ≡ false → last .stage ≡ count a 1 + end .stage) →
+    pub ended-second : to ≡ count z 1 → {last : Outcome} → last .ok ≡ end .ok → (end .ok ≡ false → last .stage ≡ count a 1 + end .stage) →
         TwoEnded columns run a z x last d
-    ended-second {end} {d} q {last} o st =
-        let p = q .passes N r lines in
-        record {
-          takes = λ e. both-done (count a 1) _ g (pass-ends run N r z (p .passes (sym o ∙ e) _ stands));
-          stops = λ e.
-              let y = p .stops (sym o ∙ e) in
-              let f = y .2 _ stands in
-              let w = st (sym o ∙ e) in
-              let m = y .0 in
-              let n = y .1 in
-              let u : last .stage - count a 1 ≡ end .stage = omega arith in
-              record {
-                some = omega arith;
-                most = omega arith;
-                early = λ l. absurd (omega arith);
-                late = λ l. record { block = _; first = g; second = rw u f };
-              };
-          wide = q .long;
-        }
+    ended-second t {last} o st = record {
+      takes = λ e. both-done (count a 1) _ g (pass-ends run N _ z (rw t at (second-reaches .goes (sym o ∙ e))));
+      stops = λ e.
+          let y = second-reaches .stops (sym o ∙ e) in
+          let f = y .2 in
+          let w = st (sym o ∙ e) in
+          let m = y .0 in
+          let n = y .1 in
+          let u : last .stage - count a 1 ≡ end .stage = omega arith in
+          record {
+            some = omega arith;
+            most = omega arith;
+            early = λ l. absurd (omega arith);
+            late = λ l. record { block = _; first = g; second = rw u f };
+          };
+      wide = q .wide;
+    }
 
-    -- the stages of the second pass before a refused one pass once more
-    module _ (stage : ℕ) (some : 1 ≤ stage) (most : stage ≤ count z 1)
-        (f : Refused (passRun run (twoSize columns a z) (oneLines (other columns) (count a 0) z) z
-        (laid (twoSize columns a z) (oneLines columns (count z 0) a) b)) stage)
-        {end : Outcome} {d : List ℤ} (q : PassDone run z (count a 0) (stage - 1) c end d) where
+    -- the stages of the second pass before a refused one
+    module _ {stage : ℕ} (f : Refused (passRun run (twoSize columns a z) (oneLines (other columns) (count a 0) z) z
+        (laid (twoSize columns a z) (oneLines columns (count z 0) a) b)) stage) (e : stage ≡ to + 1) where
       pub second-small : Bounded (limitOf (run .task)) d
-      second-small = again-small run lines stands stage some f q
+      second-small = q .small (refused-passes second-reaches f (omega arith))
 
-      pub second-named : pairRun columns run a z x ≡ beyond (count a 1 + stage) (namedInPass (other columns) run z (count a 0) (stage - 1) d)
-      second-named =
-          second-refused (count a 1) _ g
-          (again-named run lines stands stage some most f q ∙ rw (sizes-turn columns (count z 0) (count a 0)))
+      pub second-named : stage ≤ count z 1 →
+          pairRun columns run a z x ≡ beyond (count a 1 + stage) (namedInPass (other columns) run z (count a 0) to d)
+      second-named most =
+          second-refused (count a 1) _ g (names-next second-reaches f e most ∙ rw (sizes-turn columns (count z 0) (count a 0)))
 
--- a pass that is known to be done
-pub ended-passes : {columns : Bool} {run : Run} {s : List ℤ} {many : ℕ} {x : List ℤ} {end : Outcome} {b v : List ℤ} →
-    OneEnded columns run s many x end b → oneRun columns run s many x ≡ done v →
-    (end .ok ≡ true) × (v ≡ laid (oneSize columns many s) (oneLines columns many s) b)
-ended-passes {columns} {run} {s} {many} {x} {end} {b} {v} d h = go (end .ok) refl
-  where
-    go : (o : Bool) → end .ok ≡ o → (end .ok ≡ true) × (v ≡ laid (oneSize columns many s) (oneLines columns many s) b)
-    go true e = (e, (let z : done v ≡ done (laid (oneSize columns many s) (oneLines columns many s) b) = sym h ∙ d .takes e in cc))
-    go false e =
-        let f = d .stops e .2 in
-        let z : done v ≡ beyond (end .stage) (f .element) = sym h ∙ f .is in
-        let w : _≡_ {A = ℕ} 0 1 = cc in
-        absurd (omega arith)
+-- rows and columns exchanged, then a pass
+pub turned-done : {run : Run} {s : List ℤ} {w to : ℕ} {x c : List ℤ} {end : Outcome} {y : List ℤ} (k : ℕ) → Accepted s →
+    w ≤ k → count s 0 ≤ k → k ≤ mostOrder → length x ≡ mostCells → c ≡ turned k x → PassDone run s w to c end y →
+    TurnedDone run s w to x end y
+turned-done {s = s} {w = w} {x = x} k a l m few long t d = record {
+  passes = λ down.
+      rw (ap (laid (sizeBy down (count s 0) w) (oneLines (other down) w s)) t ∙ turned-laid down (count s 0) w k x long few m l) at
+      (d .passes (sizeBy down (count s 0) w) (oneLines (other down) w s)
+      (rw (sizes-turn down (count s 0) w) at (lines-of (other down) w a (omega arith))));
+  small = d .small;
+  wide = d .long;
+}
+
+pub done-same : {ran : Ran} {u v : List ℤ} → ran ≡ done u → ran ≡ done v → u ≡ v
+done-same {u = u} {v = v} h k = let z : done u ≡ done v = sym h ∙ k in cc
 
 -- ---- the same, by other names of the numbers
 pub other-not : (b : Bool) → not b ≡ other b
@@ -267,12 +248,13 @@ unfolding other
 other-not true = refl
 other-not false = refl
 
-pub laid-orders : {columns : Bool} {m n k l : ℕ} {x b : List ℤ} → m ≡ k → n ≡ l → LaidIn columns m n x b → LaidIn columns k l x b
-laid-orders p q h = rw (p, q) at h
+pub one-stages : {columns : Bool} {run : Run} {s : List ℤ} {m many : ℕ} {x : List ℤ} {t to : ℕ} {end : Outcome} {b : List ℤ} →
+    m ≡ many → t ≡ to → OneDone columns run s m x t end b → OneDone columns run s many x to end b
+one-stages p q h = rw (p, q) at h
 
-pub pass-turns : {run : Run} {s : List ℤ} {w v to up : ℕ} {x : List ℤ} {end : Outcome} {y : List ℤ} → w ≡ v → to ≡ up →
-    PassDone run s w to x end y → PassDone run s v up x end y
-pass-turns p q h = rw (p, q) at h
+pub turned-stages : {run : Run} {s : List ℤ} {v w t to : ℕ} {x : List ℤ} {end : Outcome} {y : List ℤ} → v ≡ w → t ≡ to →
+    TurnedDone run s v t x end y → TurnedDone run s w to x end y
+turned-stages p q h = rw (p, q) at h
 
 pub named-same : (run : Run) (s : List ℤ) {c d : Bool} {m n t u : ℕ} (b : List ℤ) → c ≡ d → m ≡ n → t ≡ u →
     namedInPass c run s m t b ≡ namedInPass d run s n u b

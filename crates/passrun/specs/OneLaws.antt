@@ -14,7 +14,7 @@ use Rattle.whole.specs.Diff.{Within}
 use Rattle.rules.specs.Numbers.{mostOrder, mostCells, bound, at, count}
 use Rattle.rules.specs.Factors.{factorAt}
 use Rattle.rules.specs.Stages.{Ran, done, beyond, inside}
-use Rattle.rules.specs.Shapes.{passStage}
+use Rattle.rules.specs.Shapes.{Lines, passStage}
 use Rattle.rules.specs.Answers.{start}
 use Rattle.rules.specs.Laws.Lists.{inside-at}
 use Rattle.laws.specs.Accepted.{Accepted}
@@ -27,8 +27,8 @@ use Rattle.factor.specs.SumBounds.{Bounded, bounded-le}
 use Rattle.factor.specs.StageLoops.{Refused}
 use Rattle.factor.specs.Tasks.{limitOf, inputsOf, nthStage, takenBy, nameAfter}
 use Rattle.passrun.specs.Laid.{laid, laid-bounded}
-use Rattle.passrun.specs.PassRuns.{LinesOf, PassStands, PassDone, pass-starts, pass-ends, again-small, again-named}
-use Rattle.passrun.specs.BlockRuns.{sizeBy, startBlock, oneSize, oneLines, Lent, LaidIn, ReadOff, namedInPass, oneRun, PassAsks, OneEnded}
+use Rattle.passrun.specs.PassRuns.{PassStands, PassDone, pass-starts, pass-ends, reaches, refused-passes, names-next}
+use Rattle.passrun.specs.BlockRuns.{sizeBy, oneSize, oneLines, Lent, LaidIn, ReadOff, namedInPass, oneRun, PassAsks, OneDone}
 use Rattle.passrun.specs.Blocks.{lines-of}
 
 -- ---- a list in bound, number by number
@@ -80,33 +80,39 @@ named-read columns run s many t {b = b} {c = c} p q r h =
     let g = rw (← (size-product columns many _), r .front) at h in rw (p, q) at g
 
 module _ (columns : Bool) (run : Run) {s : List ℤ} {starts : List ℕ} {many : ℕ} {x : List ℤ}
-    (h : PassAsks columns run s starts many x) {b : List ℤ} (l : LaidIn columns many (count s 0) x b)
-    (small : Bounded (limitOf (run .task)) b) where
+    (h : PassAsks columns run s starts many x) {b : List ℤ} (l : LaidIn columns many (count s 0) x b) where
   abbrev N : ℕ
   N = oneSize columns many s
 
-  lines : LinesOf (oneSize columns many s) (oneLines columns many s) s many
-  lines = lines-of columns many (h .sheet) (h .most)
+  abbrev r : Lines
+  r = oneLines columns many s
+
+  pub laid-small : Bounded (limitOf (run .task)) b
+  laid-small = l .small _ (inner-small (run .task) x (h .inner))
 
   -- before the first stage
   stands : PassStands run (oneSize columns many s) (oneLines columns many s) s (oneRun columns run s many x) 0
       (laid (oneSize columns many s) (oneLines columns many s) b)
-  stands = rw (l .holds) (pass-starts run N (oneLines columns many s) s (rw (l .holds) at (laid-bounded N (oneLines columns many s) small)))
+  stands = rw (l .holds) (pass-starts run N r s (rw (l .holds) at (laid-bounded N r laid-small)))
 
-  pub one-ends : {end : Outcome} {c : List ℤ} → PassDone run s many (count s 1) b end c → OneEnded columns run s many x end c
-  one-ends {end} {c} d =
-      let p = d .passes N (oneLines columns many s) lines in
-      record {
-        takes = λ e. pass-ends run N (oneLines columns many s) s (p .passes e (oneRun columns run s many x) stands);
-        stops = λ e. let q = p .stops e in (q .0, q .1, q .2 (oneRun columns run s many x) stands);
-        wide = d .long;
-      }
+  pub one-reaches : {to : ℕ} {end : Outcome} {c : List ℤ} → PassDone run s many to b end c → OneDone columns run s many x to end c
+  one-reaches d = record {
+    reached = reaches run N r s (d .passes N r (lines-of columns many (h .sheet) (h .most))) stands;
+    small = d .small;
+    wide = d .long;
+  }
 
-  -- the stages before a refused one pass once more
-  module _ (stage : ℕ) (some : 1 ≤ stage) (most : stage ≤ count s 1) (f : Refused (oneRun columns run s many x) stage) {end : Outcome}
-      {c : List ℤ} (d : PassDone run s many (stage - 1) b end c) where
-    pub one-small : Bounded (limitOf (run .task)) c
-    one-small = again-small run lines stands stage some f d
+module _ {columns : Bool} {run : Run} {s : List ℤ} {many : ℕ} {x : List ℤ} {to : ℕ} {end : Outcome} {b : List ℤ}
+    (d : OneDone columns run s many x to end b) where
+  -- all stages
+  pub one-done : to ≡ count s 1 → end .ok ≡ true →
+      oneRun columns run s many x ≡ done (laid (oneSize columns many s) (oneLines columns many s) b)
+  one-done e o = pass-ends run _ _ s (rw e at (d .reached .goes o))
 
-    pub one-named : oneRun columns run s many x ≡ beyond stage (namedInPass columns run s many (stage - 1) c)
-    one-named = again-named run lines stands stage some most f d
+  -- the stages before a refused one
+  module _ {stage : ℕ} (f : Refused (oneRun columns run s many x) stage) (e : stage ≡ to + 1) where
+    pub one-small : Bounded (limitOf (run .task)) b
+    one-small = d .small (refused-passes (d .reached) f (omega arith))
+
+    pub one-named : stage ≤ count s 1 → oneRun columns run s many x ≡ beyond stage (namedInPass columns run s many to b)
+    one-named most = names-next (d .reached) f e most

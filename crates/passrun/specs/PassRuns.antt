@@ -21,7 +21,7 @@ use Rattle.factor.specs.SumBounds.{Bounded}
 use Rattle.factor.specs.Steps.{Step}
 use Rattle.factor.specs.Tasks.{limitOf, nthStage, takenBy, nameFirst, nameAfter, runBy}
 use Rattle.factor.specs.StageLoops.{Listed, Stands, stage-passes, stage-stops, stages-done, stage-named}
-use Rattle.factor.specs.StageLoops.{Refused, refused-there, Progress, progress-goes}
+use Rattle.factor.specs.StageLoops.{Refused, refused-there, Progress}
 use Rattle.factor.specs.SheetStages.{Staged, stageAt, left, left-listed, left-all}
 use Rattle.passstage.specs.Lanes.{StageDone}
 use Rattle.passrun.specs.Laid.{Fits, laid, stage-laid}
@@ -109,26 +109,46 @@ pub pass-named : (run : Run) (N : ℕ) (r : Lines) (s : List ℤ) {ran : Ran} (t
     ran ≡ beyond (t + 1) (nameAfter (run .task) N (stageInTurn run r s t) (takenBy run N (stageInTurn run r s t) v))
 pass-named run N r s t l h f = stage-named (pass-listed run r s) t l h (f .is)
 
--- a pass that is known to be refused at a stage: those before it pass once more, and the element is the one that is named there
-module _ (run : Run) {N : ℕ} {r : Lines} {s : List ℤ} {w : ℕ} (lines : LinesOf N r s w) {ran : Ran} {b : List ℤ}
-    (stands : PassStands run N r s ran 0 (laid N r b)) (stage : ℕ) (some : 1 ≤ stage) where
-  pub again-small : Refused ran stage → {end : Outcome} {c : List ℤ} → PassDone run s w (stage - 1) b end c →
-      Bounded (limitOf (run .task)) c
-  again-small f {end} {c} d = go (end .ok) refl
-    where
-      go : (o : Bool) → end .ok ≡ o → Bounded (limitOf (run .task)) c
-      go true e = d .small e
-      go false e =
-          let q = d .passes N r lines .stops e in
-          let g = q .2 ran stands in
-          let z : beyond (end .stage) (g .element) ≡ beyond stage (f .element) = sym (g .is) ∙ f .is in
-          let y : end .stage ≡ stage = cc in
-          absurd (omega (arith, q .1))
+-- a pass after the first `to` of its stages, or refused at one of them
+pub record Reached (run : Run) (N : ℕ) (r : Lines) (s : List ℤ) (ran : Ran) (to : ℕ) (end : Outcome) (v : List ℤ) : Type 0 where
+  pub goes : end .ok ≡ true → PassStands run N r s ran to v
+  pub stops : end .ok ≡ false → (1 ≤ end .stage) × (end .stage ≤ to) × Refused ran (end .stage)
 
-  pub again-named : stage ≤ count s 1 → Refused ran stage → {end : Outcome} {c : List ℤ} → PassDone run s w (stage - 1) b end c →
-      ran ≡ beyond stage (nameAfter (run .task) N (stageInTurn run r s (stage - 1)) (takenBy run N (stageInTurn run r s (stage - 1))
-      (laid N r c)))
-  again-named most f d =
-      let e : stage - 1 + 1 ≡ stage = omega arith in
-      let p = progress-goes (d .passes N r lines) stands f (omega arith) in
-      rw e at (pass-named run N r s (stage - 1) (omega arith) p (rw (← e) at f))
+pub reaches : (run : Run) (N : ℕ) (r : Lines) (s : List ℤ) {ran : Ran} {to : ℕ} {x : List ℤ} {end : Outcome} {y : List ℤ} →
+    PassProgress run N r s to x end y → PassStands run N r s ran 0 x → Reached run N r s ran to end y
+reaches run N r s p h = record { goes = λ e. p .passes e _ h; stops = λ e. let q = p .stops e in (q .0, q .1, q .2 _ h) }
+
+module _ {run : Run} {N : ℕ} {r : Lines} {s : List ℤ} {ran : Ran} {to : ℕ} {end : Outcome} {v : List ℤ}
+    (h : Reached run N r s ran to end v) where
+  passed : (end .ok ≡ false → ⊥) → end .ok ≡ true
+  passed never = go (end .ok) refl
+    where
+      go : (o : Bool) → end .ok ≡ o → end .ok ≡ true
+      go true e = e
+      go false e = absurd (never e)
+
+  -- a pass that is known to be done, or to be refused later
+  pub done-passes : {u : List ℤ} → ran ≡ done u → end .ok ≡ true
+  done-passes {u} d =
+      passed
+      (λ e.
+      let f = h .stops e .2 in
+      let z : done u ≡ beyond (end .stage) (f .element) = sym d ∙ f .is in
+      let w : _≡_ {A = ℕ} 0 1 = cc in
+      absurd (omega arith))
+
+  pub refused-passes : {stage : ℕ} → Refused ran stage → to < stage → end .ok ≡ true
+  refused-passes {stage} f l =
+      passed
+      (λ e.
+      let q = h .stops e in
+      let g = q .2 in
+      let z : beyond (end .stage) (g .element) ≡ beyond stage (f .element) = sym (g .is) ∙ f .is in
+      let y : end .stage ≡ stage = cc in
+      absurd (omega (arith, q .1)))
+
+  -- the element that is named where it is refused at the next stage
+  pub names-next : {stage : ℕ} → Refused ran stage → stage ≡ to + 1 → stage ≤ count s 1 →
+      ran ≡ beyond stage (nameAfter (run .task) N (stageInTurn run r s to) (takenBy run N (stageInTurn run r s to) v))
+  names-next f e most =
+      rw e (pass-named run N r s to (omega arith) (h .goes (refused-passes f (omega arith))) (rw e at f))

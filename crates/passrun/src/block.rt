@@ -11,10 +11,9 @@ ghost use Rattle.laws.specs.Accepted.{Accepted, FactorRead};
 ghost use Rattle.sheetread.specs.Starts.{Starts};
 ghost use Rattle.factor.specs.SumBounds.{Bounded};
 ghost use Rattle.factor.specs.PassLines.{linesBy};
-ghost use Rattle.factor.specs.StageLoops.{Refused};
 ghost use Rattle.factor.specs.Tasks.{limitOf, takenBy, nameAfter};
 ghost use Rattle.passrun.specs.Laid.{laid};
-ghost use Rattle.passrun.specs.BlockRuns.{sizeBy, Lent, LaidIn, ReadOff, namedInPass, PassAsks, oneRun, OneEnded};
+ghost use Rattle.passrun.specs.BlockRuns.{sizeBy, Lent, LaidIn, ReadOff, namedInPass, PassAsks, OneDone, TurnedDone};
 ghost use Rattle.passrun.specs.EndLaws.{PairAsks, pairRun, PairRefused, TwoEnded};
 ghost use Rattle.passrun.specs.BlockRuns.{OneAsks, OneGives, TwoAsks, TwoGives};
 use crate::layout::close_rows;
@@ -41,6 +40,16 @@ fn larger(a: usize, b: usize) -> usize
         return b;
     }
     a
+}
+
+// The smaller of two numbers.
+fn smaller(a: usize, b: usize) -> usize
+    ensures { λ r. ⌜ (r ≤ b) × (a ≤ b → r ≡ a) × (b ≤ a → r ≡ b) ⌝ }
+{
+    if a < b {
+        return a;
+    }
+    b
 }
 
 // The lent numbers into a block of zeros, the lines side by side: `many` columns of `long` numbers, or rows. Allowances lend none.
@@ -127,7 +136,7 @@ fn element_in_pass(
     first_named(columns, run, sheet, n, many, i, b)
 }
 
-// A block of zeros through one pass.
+// The first `to` stages of a pass, over the lent numbers in a block of zeros.
 fn run_one_pass(
     columns: bool,
     run: Run,
@@ -135,37 +144,19 @@ fn run_one_pass(
     starts: &[u16; Sheet::FACTORS],
     many: usize,
     x: &[i32],
+    to: usize,
     b: &mut [i32; Block::CELLS],
 ) -> Outcome
-    requires { ⌜ PassAsks columns run (now sheet) (now starts) many (now x) × (now b ≡ replicate mostCells (pos 0)) ⌝ }
-    ensures { λ r. ⌜ OneEnded columns run (now (sheet .entry)) many (now (x .entry)) r (now (b .exit)) ⌝ }
+    requires { ⌜ PassAsks columns run (now sheet) (now starts) many (now x) × (to ≤ count (now sheet) 1)
+        × (now b ≡ replicate mostCells (pos 0)) ⌝ }
+    ensures { λ r. ⌜ OneDone columns run (now (sheet .entry)) many (now (x .entry)) to r (now (b .exit)) ⌝ }
 {
     lay(columns, many, count_at(sheet, 0), x, b);
-    run_pass(run, sheet, starts, many, count_at(sheet, 1), b)
+    run_pass(run, sheet, starts, many, to, b)
 }
 
-// The element that a refusal at a stage of it names. The stage lies over the block before it, so the stages before it are taken once
-// more.
-fn element_of_one(
-    columns: bool,
-    run: Run,
-    sheet: &[i32],
-    starts: &[u16; Sheet::FACTORS],
-    many: usize,
-    x: &[i32],
-    stage: usize,
-    b: &mut [i32; Block::CELLS],
-) -> usize
-    requires { ⌜ PassAsks columns run (now sheet) (now starts) many (now x) × (now b ≡ replicate mostCells (pos 0))
-        × (1 ≤ stage) × (stage ≤ count (now sheet) 1) × Refused (oneRun columns run (now sheet) many (now x)) stage ⌝ }
-    ensures { λ e. ⌜ oneRun columns run (now (sheet .entry)) many (now (x .entry)) ≡ beyond stage e ⌝ }
-{
-    lay(columns, many, count_at(sheet, 0), x, b);
-    run_pass(run, sheet, starts, many, stage - 1, b);
-    element_in_pass(columns, run, sheet, starts, many, stage - 1, b)
-}
-
-// Whether the pass of a block is accepted: then y has what it gives. If not, y stays, and the pair has where it is refused.
+// Whether the pass of a block is accepted: then y has what it gives. If not, y stays, and the pair has where it is refused. The
+// refused stage lies over the block before it, so the stages before it are taken once more.
 pub fn run_one(
     columns: bool,
     run: Run,
@@ -185,14 +176,17 @@ pub fn run_one(
         return false;
     }
     let mut b = [0i32; Block::CELLS];
-    let r = run_one_pass(columns, run, sheet, starts, many, x, &mut b);
+    let all = count_at(sheet, 1);
+    let r = run_one_pass(columns, run, sheet, starts, many, x, all, &mut b);
     let stage = r.stage;
     if !r.ok {
         b = [0i32; Block::CELLS];
+        let t = stage - 1;
+        run_one_pass(columns, run, sheet, starts, many, x, t, &mut b);
         note(
             refused,
             stage,
-            element_of_one(columns, run, sheet, starts, many, x, stage, &mut b),
+            element_in_pass(columns, run, sheet, starts, many, t, &mut b),
         );
         return false;
     }
@@ -200,8 +194,24 @@ pub fn run_one(
     true
 }
 
-// A block of zeros through two passes. Between them rows and columns change places, so that the lines of the second lie side by
-// side.
+// The first `to` stages of a second pass, along w lines. Rows and columns change places first, so that its lines lie side by side.
+fn run_turned(
+    run: Run,
+    sheet: &[i32],
+    starts: &[u16; Sheet::FACTORS],
+    w: usize,
+    to: usize,
+    b: &mut [i32; Block::CELLS],
+) -> Outcome
+    requires { ⌜ Accepted (now sheet) × Starts (now sheet) (now starts) × (w ≤ mostOrder) × (to ≤ count (now sheet) 1)
+        × Bounded (limitOf (run .task)) (now b) × (length (now b) ≡ mostCells) ⌝ }
+    ensures { λ r. ⌜ TurnedDone run (now (sheet .entry)) w to (now (b .entry)) r (now (b .exit)) ⌝ }
+{
+    turn(larger(w, count_at(sheet, 0)), b);
+    run_pass(run, sheet, starts, w, to, b)
+}
+
+// A block of zeros through two passes.
 fn run_two_passes(
     columns: bool,
     run: Run,
@@ -216,16 +226,19 @@ fn run_two_passes(
         × (now b ≡ replicate mostCells (pos 0)) ⌝ }
     ensures { λ r. ⌜ TwoEnded columns run (now (first .entry)) (now (second .entry)) (now (x .entry)) r (now (b .exit)) ⌝ }
 {
-    let n = count_at(first, 0);
-    let m = count_at(second, 0);
     let k = count_at(first, 1);
-    lay(columns, m, n, x, b);
-    let r = run_pass(run, first, firsts, m, k, b);
+    let r = run_one_pass(columns, run, first, firsts, count_at(second, 0), x, k, b);
     if !r.ok {
         return r;
     }
-    turn(larger(n, m), b);
-    let s = run_pass(run, second, seconds, n, count_at(second, 1), b);
+    let s = run_turned(
+        run,
+        second,
+        seconds,
+        count_at(first, 0),
+        count_at(second, 1),
+        b,
+    );
     let stage = s.stage;
     if !s.ok {
         return Outcome {
@@ -236,7 +249,7 @@ fn run_two_passes(
     s
 }
 
-// The element that a refusal at a stage of them names.
+// The element that a refusal at a stage of them names: the stages before it are taken once more.
 fn element_of_two(
     columns: bool,
     run: Run,
@@ -255,14 +268,13 @@ fn element_of_two(
     let n = count_at(first, 0);
     let m = count_at(second, 0);
     let k = count_at(first, 1);
-    if stage <= k {
-        return element_of_one(columns, run, first, firsts, m, x, stage, b);
+    let t = stage - 1;
+    run_one_pass(columns, run, first, firsts, m, x, smaller(t, k), b);
+    if t < k {
+        return element_in_pass(columns, run, first, firsts, m, t, b);
     }
-    lay(columns, m, n, x, b);
-    run_pass(run, first, firsts, m, k, b);
-    turn(larger(n, m), b);
-    run_pass(run, second, seconds, n, stage - 1 - k, b);
-    element_in_pass(!columns, run, second, seconds, n, stage - 1 - k, b)
+    run_turned(run, second, seconds, n, t - k, b);
+    element_in_pass(!columns, run, second, seconds, n, t - k, b)
 }
 
 // The same of two passes: the lines of the first are columns or rows, those of the second the others.

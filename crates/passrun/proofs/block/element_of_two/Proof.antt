@@ -1,22 +1,20 @@
--- Refused in the first pass: its element. Else the first pass is done once more (`ended-passes`), then the stages of the second
--- before the refused one (`second-small`), and the search names the element of that stage (`second-named`).
+-- The stages before the refused one pass once more: in the first pass (`one-named`), or all of it (`done-passes`) and some of the
+-- second (`second-named`). The search names the element of that stage.
+use borrow.Author.Needs.{needs}
 use mathlib.Core.Bool.{true}
-use mathlib.Core.Path.{_≡_, refl, sym, ap, _∙_}
-use native.Mathlib.Nat.{le-refl}
+use mathlib.Core.Path.{_≡_, refl, _∙_}
 use native.Mathlib.Omega.{arith}
-use Prim.Native.Nat.{ℕ, _+_, _-_, _≤_, _<_}
+use Prim.Native.Nat.{_+_, _-_, _≤_, _<_}
 use Rattle.rules.specs.Numbers.{count}
 use Rattle.rules.specs.Stages.{done}
 use Rattle.laws.specs.Accepted.{accepted-order, order-counts, count-counts}
-use Rattle.factor.specs.Tasks.{limitOf}
-use Rattle.factor.specs.SumBounds.{Bounded}
 use Rattle.factor.specs.StageLoops.{Refused}
 use Rattle.passrun.specs.Laid.{laid}
-use Rattle.passrun.specs.BlockRuns.{LaidIn, OneEnded, oneRun, oneLines, twoSize, other}
-use Rattle.passrun.specs.PassRuns.{PassDone, passRun}
-use Rattle.passrun.specs.OneLaws.{lent-by, inner-small, one-ends}
-use Rattle.passrun.specs.EndLaws.{Later, first-asks, first-refused, ended-passes, turned-small, turned-wide, second-small, second-named}
-use Rattle.passrun.specs.EndLaws.{other-not, laid-orders, pass-turns, named-same, ends-at}
+use Rattle.passrun.specs.BlockRuns.{OneDone, TurnedDone, oneRun, oneLines, twoSize, other}
+use Rattle.passrun.specs.PassRuns.{passRun, done-passes}
+use Rattle.passrun.specs.OneLaws.{one-done, one-small, one-named}
+use Rattle.passrun.specs.EndLaws.{Later, first-asks, first-refused, second-small, second-named}
+use Rattle.passrun.specs.EndLaws.{other-not, one-stages, turned-stages, named-same, ends-at, done-same}
 use Rattle.passrun.proofs.block.element_of_two.Statement.{statement}
 use Rattle.passrun.proofs.block.element_of_two.Tie as tie
 
@@ -33,213 +31,166 @@ count-at-requires-3 c κs = count-counts (c .before .before .pre .0 .one)
 abbrev S : tie.After-count-at3 → tie.Start
 S k = k .before .before .before
 
-element-of-one-requires : tie.Need-element-of-one-requires
-element-of-one-requires c κs =
-    let t = c .before in
-    let k = t .before in
-    let s = S k in
-    let l = rw (k .count-at3 .ensures) at (t .if1 .taken) in
-    let f = s .pre .2 in (
+sub-t : tie.Need-sub-t
+sub-t c = let l = S c .pre .2 .some in omega arith
+
+smaller-requires : tie.Need-smaller-requires
+smaller-requires c κs = search needs
+
+run-one-pass-requires : tie.Need-run-one-pass-requires
+run-one-pass-requires c κs =
+    let g = c .before in
+    let k = g .before in
+    let s = S k in (
       rw (k .before .count-at2 .ensures) (first-asks (s .args .columns) (s .args .run) (s .pre .0)),
+      rw (k .count-at3 .ensures) at (g .smaller .ensures .0),
       s .pre .1,
-      f .some,
-      l,
-      rw (k .before .count-at2 .ensures) (f .early l),
+    )
+
+-- the counts, from the end of the first pass
+abbrev K : tie.After-run-one-pass → tie.After-count-at3
+K r = r .before .before .before
+
+-- ---- refused in the first pass
+early : (c : tie.Then1) → let a = S (K (c .before)) .args in
+    OneDone (a .columns) (a .run) (a .first .now) (count (a .second .now) 0) (a .x .now) (a .stage - 1)
+    (c .before .run-one-pass .result) (c .before .run-one-pass .last .1 .1 .1 .1 .1 .1 .1 .0)
+early c =
+    let r = c .before in
+    let l = c .if1 .taken in
+    one-stages (K r .before .count-at2 .ensures) (r .before .before .smaller .ensures .1 (omega arith)) (r .run-one-pass .ensures)
+
+here : (c : tie.Then1) → let a = S (K (c .before)) .args in a .stage ≤ count (a .first .now) 1
+here c = let l = c .if1 .taken in omega (arith, K (c .before) .count-at3 .ensures)
+
+next : (s : tie.Start) → s .args .stage ≡ s .args .stage - 1 + 1
+next s = let l = s .pre .2 .some in omega arith
+
+element-in-pass-requires : tie.Need-element-in-pass-requires
+element-in-pass-requires c κs =
+    let t = c .before in
+    let k = K (t .before) in
+    let s = S k in
+    let p = s .pre .0 in
+    let o = accepted-order (p .next) in
+    let l = here t in (
+      p .one,
+      p .ones,
+      rw (k .before .count-at2 .ensures) (o .least),
+      rw (k .before .count-at2 .ensures) (o .most),
+      omega (arith, s .pre .2 .some),
+      one-small (early t) (s .pre .2 .early l) (next s),
+      early t .wide,
     )
 
 returns : tie.Need-returns
 returns c =
-    let k = c .before .before .before in
-    let g = rw (k .before .count-at2 .ensures) at (c .element-of-one .ensures) in
-    first-refused (count (S k .args .first .now) 1) _ g
-
-lay-requires : tie.Need-lay-requires
-lay-requires c κs =
-    let k = c .before .before in
+    let t = c .before .before in
+    let k = K (t .before) in
     let s = S k in
     let a = s .args in
-    let p = s .pre .0 in
-    let n = k .before .before .count-at .ensures in
-    let m = k .before .count-at2 .ensures in (
-      rw m (accepted-order (p .next) .most),
-      rw n (accepted-order (p .one) .most),
-      rw (n, m) (lent-by (a .run .task) (a .x .now) _ (p .input)),
-      s .pre .1,
-    )
+    ends-at
+    (first-refused (count (a .first .now) 1) _ (one-named (early t) (s .pre .2 .early (here t)) (next s) (here t)))
+    refl
+    (c .element-in-pass .ensures ∙ named-same (a .run) (a .first .now) _ refl (k .before .count-at2 .ensures) refl)
 
--- the block then, of the orders themselves, is in bound
-abbrev K : tie.After-lay → tie.After-count-at3
-K l = l .before .before .before
+-- ---- refused in the second: the first is done
+whole : (c : tie.Else1) → let a = S (K (c .before)) .args in
+    OneDone (a .columns) (a .run) (a .first .now) (count (a .second .now) 0) (a .x .now) (count (a .first .now) 1)
+    (c .before .run-one-pass .result) (c .before .run-one-pass .last .1 .1 .1 .1 .1 .1 .1 .0)
+whole c =
+    let r = c .before in
+    let l = c .if1 .left in
+    one-stages (K r .before .count-at2 .ensures)
+    (r .before .before .smaller .ensures .2 (omega arith) ∙ K r .count-at3 .ensures) (r .run-one-pass .ensures)
 
-laid-in : (l : tie.After-lay) → let a = S (K l) .args in
-    LaidIn (a .columns) (count (a .second .now) 0) (count (a .first .now) 0) (a .x .now) (l .lay .last .1 .1 .1 .1 .0)
-laid-in l = laid-orders (K l .before .count-at2 .ensures) (K l .before .before .count-at .ensures) (l .lay .ensures)
+over : (c : tie.Else1) → let a = S (K (c .before)) .args in count (a .first .now) 1 < a .stage
+over c = let l = c .if1 .left in let m = S (K (c .before)) .pre .2 .some in omega (arith, K (c .before) .count-at3 .ensures)
 
-small : (l : tie.After-lay) → Bounded (limitOf (S (K l) .args .run .task)) (l .lay .last .1 .1 .1 .1 .0)
-small l =
-    let s = S (K l) in l .lay .ensures .small _ (inner-small (s .args .run .task) (s .args .x .now) (s .pre .0 .inner))
-
-run-pass-requires : tie.Need-run-pass-requires
-run-pass-requires c κs =
-    let l = c .before in
-    let k = K l in
-    let s = S k in
-    let p = s .pre .0 in (
-      p .one,
-      p .ones,
-      rw (k .before .count-at2 .ensures) (accepted-order (p .next) .most),
-      rw (k .count-at3 .ensures) (le-refl (count (s .args .first .now) 1)),
-      small l,
-      l .lay .ensures .wide,
-    )
-
--- the first pass is done
-abbrev L : tie.After-run-pass → tie.After-lay
-L r = r .before .before
-
-ended : (r : tie.After-run-pass) → let a = S (K (L r)) .args in
-    OneEnded (a .columns) (a .run) (a .first .now) (count (a .second .now) 0) (a .x .now) (r .run-pass .result)
-    (r .run-pass .last .1 .1 .1 .1 .1 .0)
-ended r =
-    let k = K (L r) in
-    let s = S k in
-    let a = s .args in
-    one-ends (a .columns) (a .run) (first-asks (a .columns) (a .run) (s .pre .0)) (laid-in (L r)) (small (L r))
-    (pass-turns (k .before .count-at2 .ensures) (k .count-at3 .ensures) (r .run-pass .ensures))
-
-over : (r : tie.After-run-pass) → let a = S (K (L r)) .args in count (a .first .now) 1 < a .stage
-over r = let e = L r .before .before in let l = e .if1 .left in omega (arith, K (L r) .count-at3 .ensures)
-
-later : (r : tie.After-run-pass) → let a = S (K (L r)) .args in
+later : (c : tie.Else1) → let a = S (K (c .before)) .args in
     Later (a .columns) (a .run) (a .first .now) (a .second .now) (a .x .now) (a .stage)
-later r = S (K (L r)) .pre .2 .late (over r)
+later c = S (K (c .before)) .pre .2 .late (over c)
 
-passed : (r : tie.After-run-pass) → r .run-pass .result .ok ≡ true
-passed r = ended-passes (ended r) (later r .first) .0
+passed : (c : tie.Else1) → c .before .run-one-pass .result .ok ≡ true
+passed c = done-passes (whole c .reached) (later c .first)
 
--- and the second is refused on what it gave
-refused : (r : tie.After-run-pass) → let a = S (K (L r)) .args in
+refused : (c : tie.Else1) → let a = S (K (c .before)) .args in
     Refused (passRun (a .run) (twoSize (a .columns) (a .first .now) (a .second .now))
     (oneLines (other (a .columns)) (count (a .first .now) 0) (a .second .now)) (a .second .now)
     (laid (twoSize (a .columns) (a .first .now) (a .second .now)) (oneLines (a .columns) (count (a .second .now) 0) (a .first .now))
-    (r .run-pass .last .1 .1 .1 .1 .1 .0))) (a .stage - count (a .first .now) 1)
-refused r = rw (ended-passes (ended r) (later r .first) .1) at (later r .second)
+    (c .before .run-one-pass .last .1 .1 .1 .1 .1 .1 .1 .0))) (a .stage - count (a .first .now) 1)
+refused c = rw (done-same (later c .first) (one-done (whole c) refl (passed c))) at (later c .second)
 
--- its turn, counted from the second pass
-turn-is : (r : tie.After-run-pass) → let a = S (K (L r)) .args in
-    a .stage - 1 - K (L r) .count-at3 .result ≡ a .stage - count (a .first .now) 1 - 1
-turn-is r = omega (arith, K (L r) .count-at3 .ensures)
-
-larger-requires : tie.Need-larger-requires
-larger-requires c κs =
-    let k = K (L c) in
-    let p = S k .pre .0 in (
-      rw (k .before .before .count-at .ensures) (accepted-order (p .one) .most),
-      rw (k .before .count-at2 .ensures) (accepted-order (p .next) .most),
-    )
-
-turn-requires : tie.Need-turn-requires
-turn-requires c κs = let g = c .before in (g .larger .ensures .2, g .before .run-pass .ensures .long)
-
-abbrev R : tie.After-turn → tie.After-run-pass
-R t = t .before .before .before
-
-left : (t : tie.After-turn) → count (S (K (L (R t))) .args .first .now) 0 ≤ t .before .before .larger .result
-left t = rw (K (L (R t)) .before .before .count-at .ensures) at (t .before .before .larger .ensures .0)
-
-right : (t : tie.After-turn) → count (S (K (L (R t))) .args .second .now) 0 ≤ t .before .before .larger .result
-right t = rw (K (L (R t)) .before .count-at2 .ensures) at (t .before .before .larger .ensures .1)
-
-sub-run-pass : tie.Need-sub-run-pass
-sub-run-pass c = let l = over (R c) in omega arith
-
-sub-run-pass-2 : tie.Need-sub-run-pass-2
-sub-run-pass-2 c = let l = over (R c) in omega (arith, K (L (R c)) .count-at3 .ensures)
-
-run-pass-requires-2 : tie.Need-run-pass-requires-2
-run-pass-requires-2 c κs =
-    let t = c .before in
-    let r = R t in
-    let k = K (L r) in
+run-turned-requires : tie.Need-run-turned-requires
+run-turned-requires c κs =
+    let e = c .before in
+    let k = K (e .before) in
     let s = S k in
-    let a = s .args in
     let p = s .pre .0 in
-    let q = r .run-pass .ensures in
-    let w = t .before .before .larger in
     let m = s .pre .2 .most in (
       p .next,
       p .nexts,
       rw (k .before .before .count-at .ensures) (accepted-order (p .one) .most),
       omega (arith, k .count-at3 .ensures),
-      turned-small (a .columns) (a .run) p (ended r .takes (passed r)) (q .small (passed r)) (q .long) (w .result) (w .ensures .2)
-          (left t) (right t) (t .turn .ensures),
-      turned-wide (a .columns) (a .run) p (ended r .takes (passed r)) (q .small (passed r)) (q .long) (w .result) (w .ensures .2)
-          (left t) (right t) (t .turn .ensures),
+      whole e .small (passed e),
+      whole e .wide,
     )
 
-sub-element-in-pass : tie.Need-sub-element-in-pass
-sub-element-in-pass c = let l = over (R (c .before .before)) in omega arith
+-- its turn, counted from the second pass
+abbrev E : tie.After-run-turned → tie.Else1
+E q = q .before .before
 
-sub-element-in-pass-2 : tie.Need-sub-element-in-pass-2
-sub-element-in-pass-2 c = let l = over (R (c .before .before)) in omega (arith, K (L (R (c .before .before))) .count-at3 .ensures)
+second : (q : tie.After-run-turned) → let a = S (K (E q .before)) .args in
+    TurnedDone (a .run) (a .second .now) (count (a .first .now) 0) (a .stage - 1 - count (a .first .now) 1)
+    (E q .before .run-one-pass .last .1 .1 .1 .1 .1 .1 .1 .0) (q .run-turned .result) (q .run-turned .last .1 .1 .1 .1 .1 .0)
+second q =
+    let k = K (E q .before) in
+    turned-stages (k .before .before .count-at .ensures) (omega (arith, k .count-at3 .ensures)) (q .run-turned .ensures)
 
--- the second pass, up to the refused stage
-turns : (q : tie.After-run-pass2) → let a = S (K (L (R (q .before .before)))) .args in
-    PassDone (a .run) (a .second .now) (count (a .first .now) 0) (a .stage - count (a .first .now) 1 - 1)
-    (q .before .before .turn .last .1 .0) (q .run-pass2 .result) (q .run-pass2 .last .1 .1 .1 .1 .1 .0)
-turns q =
-    let r = R (q .before .before) in
-    let k = K (L r) in
-    pass-turns (k .before .before .count-at .ensures) (turn-is r) (q .run-pass2 .ensures)
+after : (c : tie.Else1) → let a = S (K (c .before)) .args in
+    a .stage - count (a .first .now) 1 ≡ a .stage - 1 - count (a .first .now) 1 + 1
+after c = let l = over c in omega arith
 
-element-in-pass-requires : tie.Need-element-in-pass-requires
-element-in-pass-requires c κs =
+element-in-pass-requires-2 : tie.Need-element-in-pass-requires-2
+element-in-pass-requires-2 c κs =
     let q = c .before in
-    let t = q .before .before in
-    let r = R t in
-    let k = K (L r) in
+    let e = E q in
+    let k = K (e .before) in
     let s = S k in
     let a = s .args in
     let p = s .pre .0 in
     let o = accepted-order (p .one) in
-    let d = r .run-pass .ensures in
-    let w = t .before .before .larger in
     let m = s .pre .2 .most in
-    let v = over r in (
+    let l = over e in (
       p .next,
       p .nexts,
       rw (k .before .before .count-at .ensures) (o .least),
       rw (k .before .before .count-at .ensures) (o .most),
       omega (arith, k .count-at3 .ensures),
-      second-small (a .columns) (a .run) p (ended r .takes (passed r)) (d .small (passed r)) (d .long) (w .result) (w .ensures .2)
-          (left t) (right t) (t .turn .ensures) (a .stage - count (a .first .now) 1) (omega arith) (omega arith) (refused r) (turns q),
-      q .run-pass2 .ensures .long,
+      second-small (a .columns) (a .run) p (one-done (whole e) refl (passed e)) (whole e .small (passed e)) (second q) (refused e)
+          (after e),
+      q .run-turned .ensures .wide,
     )
 
 returns-2 : tie.Need-returns-2
 returns-2 c =
     let q = c .before .before in
-    let t = q .before .before in
-    let r = R t in
-    let k = K (L r) in
+    let e = E q in
+    let k = K (e .before) in
     let s = S k in
     let a = s .args in
-    let p = s .pre .0 in
-    let d = r .run-pass .ensures in
-    let w = t .before .before .larger in
     let m = s .pre .2 .most in
-    let v = over r in
+    let l = over e in
     ends-at
-    (second-named (a .columns) (a .run) p (ended r .takes (passed r)) (d .small (passed r)) (d .long) (w .result) (w .ensures .2)
-    (left t) (right t) (t .turn .ensures) (a .stage - count (a .first .now) 1) (omega arith) (omega arith) (refused r) (turns q))
+    (second-named (a .columns) (a .run) (s .pre .0) (one-done (whole e) refl (passed e)) (whole e .small (passed e)) (second q)
+    (refused e) (after e) (omega arith))
     (omega arith)
-    (c .element-in-pass .ensures
-    ∙ named-same (a .run) (a .second .now) (q .run-pass2 .last .1 .1 .1 .1 .1 .0) (other-not (a .columns))
-    (k .before .before .count-at .ensures) (turn-is r))
+    (c .element-in-pass2 .ensures
+    ∙ named-same (a .run) (a .second .now) _ (other-not (a .columns)) (k .before .before .count-at .ensures)
+    (omega (arith, k .count-at3 .ensures)))
 
 pub element-of-two-spec : {M : Type 1} → statement M
 element-of-two-spec =
     tie.close
-    (tie.spec count-at-requires count-at-requires-2 count-at-requires-3 element-of-one-requires returns lay-requires
-    run-pass-requires larger-requires turn-requires sub-run-pass sub-run-pass-2 run-pass-requires-2 sub-element-in-pass
-    sub-element-in-pass-2 element-in-pass-requires returns-2)
+    (tie.spec count-at-requires count-at-requires-2 count-at-requires-3 sub-t smaller-requires run-one-pass-requires
+    element-in-pass-requires returns run-turned-requires element-in-pass-requires-2 returns-2)
