@@ -2,5 +2,6 @@ pub mod Lanes
 pub mod LaneSteps
 pub mod LaneLaws
 pub mod FilledLines
+pub mod RowColumns
 pub mod RowLaws
 pub mod StageLaws
