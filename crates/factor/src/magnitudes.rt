@@ -11,7 +11,7 @@ use rules::Sheet;
 use sheetread::factors::size;
 
 // |z|
-fn magnitude(z: i32) -> i32
+pub fn magnitude(z: i32) -> i32
     requires { ⌜ Within mostEntry z ⌝ }
     ensures { λ r. ⌜ r ≡ pos (natAbs z) ⌝ }
 {

@@ -64,7 +64,7 @@ pub fn undo_at(sheet: &[i32], f: Layout, m: usize, q: i64, x: &mut [i32; Block::
 }
 
 // What the rounding of a row adds, unless all its entries are multiples of 4096.
-fn row_share(rule: Rule, sheet: &[i32], p: usize, m: usize) -> i64
+pub fn row_share(rule: Rule, sheet: &[i32], p: usize, m: usize) -> i64
     requires { ⌜ Entries (now sheet) p m ⌝ }
     ensures { λ r. ⌜ r ≡ cond (whole (now (sheet .entry)) p m) (pos 0) (pos (share rule)) ⌝ }
 {
@@ -87,7 +87,7 @@ fn magnitude_sum_at(sheet: &[i32], r: Row, m: usize, b: &[i32; Block::LINE]) -> 
 }
 
 // What the allowance of element m becomes.
-pub fn allowed_at(rule: Rule, sheet: &[i32], f: Layout, m: usize, b: &[i32; Block::LINE]) -> i64
+fn allowed_at(rule: Rule, sheet: &[i32], f: Layout, m: usize, b: &[i32; Block::LINE]) -> i64
     requires { ⌜ InSheet (now sheet) f × (m < f .order) × Bounded mostAllowance (now b) ⌝ }
     ensures { λ r. ⌜ r ≡ allowedAt rule (now (sheet .entry)) f (now (b .entry)) m ⌝ }
 {
