@@ -1,5 +1,6 @@
 pub mod Steps
 pub mod LineBounds
+pub mod RowColumns
 pub mod Filling
 pub mod RowsByKind
 pub mod StagesAgree

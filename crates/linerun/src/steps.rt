@@ -3,6 +3,8 @@ ghost use mathlib.Core.Path.{_≡_};
 ghost use mathlib.Core.Bool.{cond};
 ghost use Prim.Native.Nat.{_+_, _<_};
 ghost use lib.IntN.{pos, _+ℤ_, _-ℤ_, _*ℤ_};
+ghost use mir.Syntax.{w64};
+ghost use mir.Val.{Fits};
 ghost use Rattle.whole.specs.Diff.{Within};
 ghost use Rattle.rules.specs.Numbers.{mostOrder, bound, mostAllowance, at};
 ghost use Rattle.rules.specs.Stages.{share, fill};
@@ -13,11 +15,12 @@ ghost use Rattle.factor.specs.Magnitudes.{Entries, whole, magnitudeAt};
 ghost use Rattle.factor.specs.Steps.{Step};
 ghost use Rattle.linerun.specs.Steps.{ElementGiven, allowedAt};
 ghost use Rattle.linerun.specs.LineBounds.{mostRounded};
+ghost use Rattle.linerun.specs.RowColumns.{columnOf};
 use factor::Layout;
 use factor::Row;
 use factor::bounds::keep;
 use factor::magnitudes::are_whole;
-use factor::magnitudes::magnitudes;
+use factor::magnitudes::magnitude;
 use factor::rounding::applied;
 use factor::rounding::is_within;
 use factor::rounding::raise_line;
@@ -26,7 +29,7 @@ use factor::rounding::share_of;
 use factor::rounding::undone;
 use factor::row_of;
 use factor::run::Outcome;
-use factor::sums::row_sum;
+use factor::sums::with_term;
 use rules::Block;
 use rules::Rule;
 
@@ -64,7 +67,7 @@ pub fn undo_at(sheet: &[i32], f: Layout, m: usize, q: i64, x: &mut [i32; Block::
 }
 
 // What the rounding of a row adds, unless all its entries are multiples of 4096.
-pub fn row_share(rule: Rule, sheet: &[i32], p: usize, m: usize) -> i64
+fn row_share(rule: Rule, sheet: &[i32], p: usize, m: usize) -> i64
     requires { ⌜ Entries (now sheet) p m ⌝ }
     ensures { λ r. ⌜ r ≡ cond (whole (now (sheet .entry)) p m) (pos 0) (pos (share rule)) ⌝ }
 {
@@ -74,20 +77,35 @@ pub fn row_share(rule: Rule, sheet: &[i32], p: usize, m: usize) -> i64
     share_of(rule)
 }
 
-// The sum of the magnitudes of row m, each times the allowance of its column.
+// The column of entry j of row m.
+fn column_of(r: Row, m: usize, j: usize) -> usize
+    requires { ⌜ Fits w64 (m + 1 + j) ⌝ }
+    ensures { λ k. ⌜ k ≡ columnOf r m j ⌝ }
+{
+    let left = r.left;
+    if j < left {
+        return j;
+    }
+    m + 1 + (j - left)
+}
+
+// The sum of the magnitudes of row m, each times the allowance of its column. Nobody waits for allowances, so what counts is that
+// they need little stack: the sum goes through the row's entries in one loop, and keeps no array of their magnitudes.
 fn magnitude_sum_at(sheet: &[i32], r: Row, m: usize, b: &[i32; Block::LINE]) -> i64
     requires { ⌜ RowIn (now sheet) mostOrder r m × Bounded mostAllowance (now b) ⌝ }
     ensures { λ s. ⌜ s ≡ along (magnitudeAt (now (sheet .entry))) r m (now (b .entry)) ⌝ }
 {
     let at = r.at;
-    let left = r.left;
-    let right = r.right;
-    let a = magnitudes(sheet, at, left + right);
-    row_sum(&a, Row { at: 0, left, right }, m, b)
+    let many = r.left + r.right;
+    let mut sum: i64 = 0;
+    for j in 0..many {
+        sum = with_term(sum, magnitude(sheet[at + j]), b[column_of(r, m, j)]);
+    }
+    sum
 }
 
 // What the allowance of element m becomes.
-fn allowed_at(rule: Rule, sheet: &[i32], f: Layout, m: usize, b: &[i32; Block::LINE]) -> i64
+pub fn allowed_at(rule: Rule, sheet: &[i32], f: Layout, m: usize, b: &[i32; Block::LINE]) -> i64
     requires { ⌜ InSheet (now sheet) f × (m < f .order) × Bounded mostAllowance (now b) ⌝ }
     ensures { λ r. ⌜ r ≡ allowedAt rule (now (sheet .entry)) f (now (b .entry)) m ⌝ }
 {

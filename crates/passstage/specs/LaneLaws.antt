@@ -79,7 +79,7 @@ lane-row k m w z x start b wide long l a =
         ∙ sym (set-other (lane l x) m e (z l) q)
 
 -- ---- a line that is set
-lane-line : (l n : ℕ) (q : ℕ → ℕ) (g : ℕ → ℤ) (x : List ℤ) → l < mostOrder → length x ≡ mostCells →
+pub lane-line : (l n : ℕ) (q : ℕ → ℕ) (g : ℕ → ℤ) (x : List ℤ) → l < mostOrder → length x ≡ mostCells →
     ((m : ℕ) → m < n → q m < mostOrder) → lane l (scattered n (λ m. l + q m * mostOrder) g x) ≡ scattered n q g (lane l x)
 unfolding scattered
 lane-line l zero q g x a long h = refl
@@ -88,7 +88,7 @@ lane-line l (suc n) q g x a long h =
     (length-scattered n (λ m. l + q m * mostOrder) g x ∙ long)
     ∙ ap (λ (v : List ℤ). set v (q n) (g n)) (lane-line l n q g x a long (λ m b. h m (omega arith)))
 
-lane-beside : (l n : ℕ) (q : ℕ → ℕ) (g : ℕ → ℤ) (x : List ℤ) → l < mostOrder → (i : ℕ) → i < mostOrder → i ≢ l →
+pub lane-beside : (l n : ℕ) (q : ℕ → ℕ) (g : ℕ → ℤ) (x : List ℤ) → l < mostOrder → (i : ℕ) → i < mostOrder → i ≢ l →
     lane i (scattered n (λ m. l + q m * mostOrder) g x) ≡ lane i x
 lane-beside l n q g x a i b d =
     lanes-same i _ x

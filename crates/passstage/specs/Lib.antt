@@ -3,6 +3,5 @@ pub mod Parts
 pub mod LaneSteps
 pub mod LaneLaws
 pub mod FilledLines
-pub mod RowColumns
 pub mod RowLaws
 pub mod StageLaws

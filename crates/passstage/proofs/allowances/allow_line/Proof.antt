@@ -38,16 +38,16 @@ loop-holds : tie.Need-loop-holds Inv-loop μ-loop
 unfolding lane scattered
 loop-holds c = let s = c .before .before .before .before in (omega arith, c .copy-line .ensures, refl, s .pre .2)
 
-allowed-in-requires : tie.Need-allowed-in-requires Inv-loop μ-loop
-allowed-in-requires c κs =
+allowed-at-requires : tie.Need-allowed-at-requires Inv-loop μ-loop
+allowed-at-requires c κs =
     let i = c .before in
     let s = i .before .before .before .before .before .before in
     rw (i .before .loop .inv .1) (s .pre .0, i .loop-test .taken, lane-bounded (s .args .l) (s .pre .2))
 
-value : (c : tie.After-allowed-in Inv-loop μ-loop) →
+value : (c : tie.After-allowed-at Inv-loop μ-loop) →
     let i = c .before .before in
-    toZ w64 (ofZ w64 (c .allowed-in .result)) ≡ G (i .before .before .before .before .before .before) (i .before .loop .m)
-value c = back w64 _ (c .allowed-in .ok) ∙ c .allowed-in .ensures ∙ rw (c .before .before .before .loop .inv .1)
+    toZ w64 (ofZ w64 (c .allowed-at .result)) ≡ G (i .before .before .before .before .before .before) (i .before .loop .m)
+value c = back w64 _ (c .allowed-at .ok) ∙ c .allowed-at .ensures ∙ rw (c .before .before .before .loop .inv .1)
 
 -- the number is one of sixteen
 number : (c : tie.In-loop Inv-loop μ-loop) → c .before .loop .m < mostOrder
@@ -112,5 +112,5 @@ returns-2 c =
 pub allow-line-spec : {M : Type 1} → statement M
 allow-line-spec =
     tie.close
-    (tie.spec Inv-loop μ-loop copy-line-requires loop-holds allowed-in-requires mul-keep add-keep keep-requires returns add-m
+    (tie.spec Inv-loop μ-loop copy-line-requires loop-holds allowed-at-requires mul-keep add-keep keep-requires returns add-m
     loop-less loop-again returns-2)

@@ -1,9 +1,9 @@
 -- The two runs of entries, told apart by the test.
 use mathlib.Core.Path.{sym}
 use borrow.Author.Needs.{needs}
-use Rattle.passstage.specs.RowColumns.{column-left, column-right}
-use Rattle.passstage.proofs.allowances.column_of.Statement.{statement}
-use Rattle.passstage.proofs.allowances.column_of.Tie as tie
+use Rattle.linerun.specs.RowColumns.{column-left, column-right}
+use Rattle.linerun.proofs.steps.column_of.Statement.{statement}
+use Rattle.linerun.proofs.steps.column_of.Tie as tie
 
 returns : tie.Need-returns
 returns c = sym (column-left (c .before .args .r) (c .before .args .m) (c .before .args .j) (c .if1 .taken))
