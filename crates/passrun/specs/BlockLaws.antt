@@ -14,7 +14,7 @@ use Rattle.factor.specs.PassLines.{linesBy}
 use Rattle.factor.specs.SumBounds.{Bounded}
 use Rattle.joint.specs.Sums.{nothing}
 use Rattle.passrun.specs.Laid.{Fits, laid, laid-bounded}
-use Rattle.passrun.specs.Layout.{CopiesLines, copied, length-copied, copied-bounded, turned, length-turned, turned-bounded}
+use Rattle.passrun.specs.Layout.{CopiesLines, copied, length-copied, copied-bounded, turned, length-turning, turning-bounded}
 use Rattle.passrun.specs.Blocks.{fit-by, size-most, start-all, start-none, columns-join, rows-join, laid-in, laid-out}
 use Rattle.passrun.specs.Blocks.{laid-none, turned-laid, closed-laid}
 use Rattle.passrun.specs.BlockRuns.{other, sizeBy, startBlock, Lent, LaidIn, ReadOff}
@@ -131,14 +131,14 @@ read-columns many long {b} w n l e = record {
   wide = closed-long long many b l e;
 }
 
-pub read-rows : (many long k : ℕ) {b c d : List ℤ} → long ≤ k → many ≤ k → k ≤ mostOrder → length b ≡ mostCells → d ≡ turned k b →
+pub read-rows : (many long : ℕ) {b c d : List ℤ} → many ≤ mostOrder → long ≤ mostOrder → length b ≡ mostCells → d ≡ turned many long b →
     c ≡ copied long (λ i j. i * long + j) (λ i j. at d (i * mostOrder + j)) many d → ReadOff false many long b c
 unfolding linesBy sizeBy other
-read-rows many long k {b} {c} {d} n w f l t e =
-    let q : length d ≡ mostCells = ap length t ∙ length-turned k b ∙ l in
+read-rows many long {b} {c} {d} w n l t e =
+    let q : length d ≡ mostCells = ap length t ∙ length-turning _ _ b ∙ l in
     record {
-      front = ap (take (many * long)) e ∙ closed-laid many long d q (omega arith) (omega arith)
-          ∙ ap (laid (many * long) (columns many long)) t ∙ turned-laid false many long k b l f w n;
-      small = λ B h. closed-small many long d q e B (rw t (turned-bounded k h));
+      front = ap (take (many * long)) e ∙ closed-laid many long d q w n
+          ∙ ap (laid (many * long) (columns many long)) t ∙ turned-laid false many long b l w n;
+      small = λ B h. closed-small many long d q e B (rw t (turning-bounded _ _ h));
       wide = closed-long many long d q e;
     }

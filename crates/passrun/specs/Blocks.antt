@@ -3,7 +3,7 @@ use mathlib.Core.Bool.{Bool, true, false}
 use mathlib.Core.List.{List}
 use mathlib.Core.Logic.{_≢_}
 use mathlib.Core.Path.{_≡_, refl, sym, ap, ap₂, _∙_}
-use Prim.Native.Nat.{ℕ, _+_, _*_, _/_, _%_, _≤_, _<_}
+use Prim.Native.Nat.{ℕ, _+_, _*_, _/_, _%_, _≤_, _<_, min, max}
 use native.Mathlib.Nat.{mul-le-mul}
 use native.Mathlib.Nat as NatL
 use native.Mathlib.Omega.{arith}
@@ -20,7 +20,7 @@ use Rattle.factor.specs.PassLines.{linesBy, lines-many, lines-long}
 use Rattle.factor.specs.SumBounds.{Bounded}
 use Rattle.joint.specs.Sums.{zero-at}
 use Rattle.passrun.specs.Laid.{placeIn, laid, Fits, length-laid, laid-at}
-use Rattle.passrun.specs.Layout.{CopiesLines, copied, Apart, copied-at, length-copied, turned, turned-at, length-turned}
+use Rattle.passrun.specs.Layout.{CopiesLines, copied, Apart, copied-at, length-copied, turned, turning-at}
 use Rattle.passrun.specs.BlockRuns.{other, sizeBy, oneSize, oneLines, startBlock}
 use Rattle.passrun.specs.PassRuns.{LinesOf}
 
@@ -128,20 +128,21 @@ unfolding linesBy other
 line-turned true many long e = omega arith
 line-turned false many long e = omega arith
 
-pub turned-laid : (down : Bool) (many long k : ℕ) (b : List ℤ) → length b ≡ mostCells → k ≤ mostOrder → many ≤ k → long ≤ k →
-    laid (sizeBy down many long) (linesBy (other down) long many) (turned k b)
+pub turned-laid : (down : Bool) (many long : ℕ) (b : List ℤ) → length b ≡ mostCells → many ≤ mostOrder → long ≤ mostOrder →
+    laid (sizeBy down many long) (linesBy (other down) long many) (turned many long b)
     ≡ laid (sizeBy down many long) (linesBy down many long) b
-turned-laid down many long k b lb few a c =
+turned-laid down many long b lb w n =
     let N = sizeBy down many long in
     let r = linesBy down many long in
-    let f = fit-by down many long (omega arith) (omega arith) in
-    same (length-laid N (linesBy (other down) long many) (turned k b)) (length-laid N r b)
+    let f = fit-by down many long w n in
+    let q = turned many long b in
+    same (length-laid N (linesBy (other down) long many) q) (length-laid N r b)
     (λ e l.
     let p : r .spot e * mostOrder + r .line e ≡ r .line e + r .spot e * mostOrder = omega arith in
-    laid-at N (linesBy (other down) long many) (turned k b) e l ∙ ap (at (turned k b)) (line-turned down many long e)
-    ∙ turned-at k b lb few (r .line e) (r .spot e)
-    (let z = f .tiles .line-below e l in omega (arith, lines-many down many long))
-    (let z = f .tiles .spot-below e l in omega (arith, lines-long down many long))
+    let y : r .line e < many = let z = f .tiles .line-below e l in omega (arith, lines-many down many long) in
+    let z : r .spot e < long = let z = f .tiles .spot-below e l in omega (arith, lines-long down many long) in
+    laid-at N (linesBy (other down) long many) q e l ∙ ap (at q) (line-turned down many long e)
+    ∙ turning-at (min many long) (max many long) b lb (omega arith) (r .line e) (r .spot e) (omega arith) (omega arith) (λ d. omega arith)
     ∙ ap (at b) p ∙ sym (laid-at N r b e l))
 
 -- a number of a row stands before those of the rows after it

@@ -227,14 +227,14 @@ module _ (columns : Bool) (run : Run) {a z : List ℤ} {first second : List ℕ}
           second-refused (count a 1) _ g (names-next second-reaches f e most ∙ rw (sizes-turn columns (count z 0) (count a 0)))
 
 -- rows and columns exchanged, then a pass
-pub turned-done : {run : Run} {s : List ℤ} {w to : ℕ} {x c : List ℤ} {end : Outcome} {y : List ℤ} (k : ℕ) → Accepted s →
-    w ≤ k → count s 0 ≤ k → k ≤ mostOrder → length x ≡ mostCells → c ≡ turned k x → PassDone run s w to c end y →
-    TurnedDone run s w to x end y
-turned-done {s = s} {w = w} {x = x} k a l m few long t d = record {
+pub turned-done : {run : Run} {s : List ℤ} {w to : ℕ} {x c : List ℤ} {end : Outcome} {y : List ℤ} → Accepted s →
+    w ≤ mostOrder → length x ≡ mostCells → c ≡ turned (count s 0) w x → PassDone run s w to c end y → TurnedDone run s w to x end y
+turned-done {s = s} {w = w} {x = x} a l long t d = record {
   passes = λ down.
-      rw (ap (laid (sizeBy down (count s 0) w) (oneLines (other down) w s)) t ∙ turned-laid down (count s 0) w k x long few m l) at
-      (d .passes (sizeBy down (count s 0) w) (oneLines (other down) w s)
-      (rw (sizes-turn down (count s 0) w) at (lines-of (other down) w a (omega arith))));
+      let N = sizeBy down (count s 0) w in
+      let r = oneLines (other down) w s in
+      rw (ap (laid N r) t ∙ turned-laid down (count s 0) w x long (accepted-order a .most) l) at
+      (d .passes N r (rw (sizes-turn down (count s 0) w) at (lines-of (other down) w a l)));
   small = d .small;
   wide = d .long;
 }

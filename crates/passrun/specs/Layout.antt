@@ -3,7 +3,7 @@
 use mathlib.Core.List.{List}
 use mathlib.Core.Logic.{_≢_, _⊎_, inl, inr}
 use mathlib.Core.Path.{_≡_, refl, sym, ap, _∙_}
-use Prim.Native.Nat.{ℕ, zero, suc, _+_, _*_, _≤_, _<_}
+use Prim.Native.Nat.{ℕ, zero, suc, _+_, _*_, _≤_, _<_, min, max}
 use native.Mathlib.Decide.{ℕ-discrete, decLt}
 use native.Mathlib.Nat as NatL
 use native.Mathlib.Numerals.{add-one}
@@ -91,19 +91,24 @@ exchanged i (suc j) x =
     set (set (exchanged i j x) (i * mostOrder + j) (at (exchanged i j x) (j * mostOrder + i))) (j * mostOrder + i)
     (at (exchanged i j x) (i * mostOrder + j))
 
-unfoldable pub turned : ℕ → List ℤ → List ℤ
-turned zero x = x
-turned (suc i) x = exchanged i i (turned i x)
+-- those of the first n rows and columns, in each at most `few`
+unfoldable pub turning : ℕ → ℕ → List ℤ → List ℤ
+turning few zero x = x
+turning few (suc i) x = exchanged i (min i few) (turning few i x)
+
+-- those of a block of n by m numbers, or m by n
+abbrev pub turned : ℕ → ℕ → List ℤ → List ℤ
+turned n m x = turning (min n m) (max n m) x
 
 pub length-exchanged : (i j : ℕ) (x : List ℤ) → length (exchanged i j x) ≡ length x
 unfolding exchanged
 length-exchanged i zero x = refl
 length-exchanged i (suc j) x = length-set (set (exchanged i j x) _ _) _ _ ∙ length-set (exchanged i j x) _ _ ∙ length-exchanged i j x
 
-pub length-turned : (n : ℕ) (x : List ℤ) → length (turned n x) ≡ length x
-unfolding turned
-length-turned zero x = refl
-length-turned (suc n) x = length-exchanged n n (turned n x) ∙ length-turned n x
+pub length-turning : (few n : ℕ) (x : List ℤ) → length (turning few n x) ≡ length x
+unfolding turning
+length-turning few zero x = refl
+length-turning few (suc n) x = length-exchanged n (min n few) (turning few n x) ∙ length-turning few n x
 
 -- where a number stands after it: row and column below 16
 module _ (i : ℕ) (x : List ℤ) (long : length x ≡ mostCells) where
@@ -155,46 +160,57 @@ module _ (i : ℕ) (x : List ℤ) (long : length x ≡ mostCells) where
           ∙ set-other (exchanged i j x) (i * mostOrder + j) (r * mostOrder + i) _ (λ z. omega arith)
           ∙ ih (omega arith) (omega arith) l
 
--- after all turns, a place outside the first n by n
-turned-rest : (n : ℕ) (x : List ℤ) → length x ≡ mostCells → n ≤ mostOrder → (r c : ℕ) → r < mostOrder → c < mostOrder →
-    (r < n → n ≤ c) → at (turned n x) (r * mostOrder + c) ≡ at x (r * mostOrder + c)
-unfolding turned
-turned-rest zero x long few r c a b h = refl
-turned-rest (suc n) x long few r c a b h =
-    exchanged-other n (turned n x) (length-turned n x ∙ long) n r c a b (omega arith) few (λ e. let z = h (omega arith) in omega arith)
-    (λ e. beside e (decLt r n))
-    ∙ turned-rest n x long (omega arith) r c a b (λ e. let z = h (omega arith) in omega arith)
+-- after n turns, a place outside the first n by n
+turning-rest : (few n : ℕ) (x : List ℤ) → length x ≡ mostCells → n ≤ mostOrder → (r c : ℕ) → r < mostOrder → c < mostOrder →
+    (r < n → n ≤ c) → at (turning few n x) (r * mostOrder + c) ≡ at x (r * mostOrder + c)
+unfolding turning
+turning-rest few zero x long most r c a b h = refl
+turning-rest few (suc n) x long most r c a b h =
+    exchanged-other n (turning few n x) (length-turning few n x ∙ long) (min n few) r c a b (omega arith) most
+    (λ e. let z = h (omega arith) in omega arith) (λ e. beside e (decLt r n))
+    ∙ turning-rest few n x long (omega arith) r c a b (λ e. let z = h (omega arith) in omega arith)
   where
-    beside : c ≡ n → Dec (r < n) → n ≤ r
+    beside : c ≡ n → Dec (r < n) → min n few ≤ r
     beside e (yes q) = let z = h (omega arith) in omega arith
     beside e (no q) = omega arith
 
--- ROWS ARE COLUMNS
-pub turned-at : (n : ℕ) (x : List ℤ) → length x ≡ mostCells → n ≤ mostOrder → (r c : ℕ) → r < n → c < n →
-    at (turned n x) (r * mostOrder + c) ≡ at x (c * mostOrder + r)
-unfolding turned
-turned-at zero x long few r c a b = absurd (omega arith)
-turned-at (suc n) x long few r c a b = go (turned-at n x long (omega arith) r c) (ℕ-discrete r n) (ℕ-discrete c n)
+-- ROWS ARE COLUMNS, in the first few rows and in the first few columns
+pub turning-at : (few n : ℕ) (x : List ℤ) → length x ≡ mostCells → n ≤ mostOrder → (r c : ℕ) → r < n → c < n →
+    (few ≤ r → c < few) → at (turning few n x) (r * mostOrder + c) ≡ at x (c * mostOrder + r)
+unfolding turning
+turning-at few zero x long most r c a b h = absurd (omega arith)
+turning-at few (suc n) x long most r c a b h =
+    go (λ a b. turning-at few n x long (omega arith) r c a b h) (ℕ-discrete r n) (ℕ-discrete c n)
   where
-    wide : length (turned n x) ≡ mostCells
-    wide = length-turned n x ∙ long
+    wide : length (turning few n x) ≡ mostCells
+    wide = length-turning few n x ∙ long
 
-    go : (r < n → c < n → at (turned n x) (r * mostOrder + c) ≡ at x (c * mostOrder + r)) → Dec (r ≡ n) → Dec (c ≡ n) →
-        at (exchanged n n (turned n x)) (r * mostOrder + c) ≡ at x (c * mostOrder + r)
+    left : r ≡ n → (c ≡ n → ⊥) → Dec (r < few) → c < min n few
+    left e f (yes l) = omega arith
+    left e f (no l) = let z = h (omega arith) in omega arith
+
+    above : c ≡ n → (r ≡ n → ⊥) → Dec (r < few) → r < min n few
+    above e f (yes l) = omega arith
+    above e f (no l) = let z = h (omega arith) in omega arith
+
+    go : (r < n → c < n → at (turning few n x) (r * mostOrder + c) ≡ at x (c * mostOrder + r)) → Dec (r ≡ n) → Dec (c ≡ n) →
+        at (exchanged n (min n few) (turning few n x)) (r * mostOrder + c) ≡ at x (c * mostOrder + r)
     go ih (yes e) (yes f) =
         rw (e, f)
-        (exchanged-other n (turned n x) wide n n n few few (omega arith) few (λ z. omega arith) (λ z. omega arith)
-        ∙ turned-rest n x long (omega arith) n n few few (λ z. omega arith))
+        (exchanged-other n (turning few n x) wide (min n few) n n most most (omega arith) most (λ z. omega arith) (λ z. omega arith)
+        ∙ turning-rest few n x long (omega arith) n n most most (λ z. omega arith))
     go ih (yes e) (no f) =
+        let l = left e f (decLt r few) in
         rw e
-        (exchanged-row n (turned n x) wide n c (omega arith) (omega arith) few
-        ∙ turned-rest n x long (omega arith) c n (omega arith) few (λ z. omega arith))
+        (exchanged-row n (turning few n x) wide (min n few) c l (omega arith) most
+        ∙ turning-rest few n x long (omega arith) c n (omega arith) most (λ z. omega arith))
     go ih (no e) (yes f) =
+        let l = above f e (decLt r few) in
         rw f
-        (exchanged-column n (turned n x) wide n r (omega arith) (omega arith) few
-        ∙ turned-rest n x long (omega arith) n r few (omega arith) (λ z. absurd (omega arith)))
+        (exchanged-column n (turning few n x) wide (min n few) r l (omega arith) most
+        ∙ turning-rest few n x long (omega arith) n r most (omega arith) (λ z. absurd (omega arith)))
     go ih (no e) (no f) =
-        exchanged-other n (turned n x) wide n r c (omega arith) (omega arith) (omega arith) few (λ z. absurd (e z))
+        exchanged-other n (turning few n x) wide (min n few) r c (omega arith) (omega arith) (omega arith) most (λ z. absurd (e z))
         (λ z. absurd (f z))
         ∙ ih (omega arith) (omega arith)
 
@@ -207,10 +223,10 @@ exchanged-bounded i (suc j) {x} h =
     bounded-set (set (exchanged i j x) (i * mostOrder + j) (at (exchanged i j x) (j * mostOrder + i))) (j * mostOrder + i)
     (bounded-set (exchanged i j x) (i * mostOrder + j) k (k .small (j * mostOrder + i))) (k .small (i * mostOrder + j))
 
-pub turned-bounded : {B : ℕ} (n : ℕ) {x : List ℤ} → Bounded B x → Bounded B (turned n x)
-unfolding turned
-turned-bounded zero h = h
-turned-bounded (suc n) h = exchanged-bounded n n (turned-bounded n h)
+pub turning-bounded : {B : ℕ} (few n : ℕ) {x : List ℤ} → Bounded B x → Bounded B (turning few n x)
+unfolding turning
+turning-bounded few zero h = h
+turning-bounded few (suc n) h = exchanged-bounded n (min n few) (turning-bounded few n h)
 
 -- ---- rows 16 apart, closed up
 pub rows-near : (i : ℕ) {n : ℕ} → n ≤ mostOrder → i * n ≤ i * mostOrder

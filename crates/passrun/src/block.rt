@@ -30,27 +30,7 @@ use offender::stage::pass_element;
 use rules::Block;
 use rules::Sheet;
 use sheetread::factors::count_at;
-
-// The larger of two orders.
-fn larger(a: usize, b: usize) -> usize
-    requires { ⌜ (a ≤ mostOrder) × (b ≤ mostOrder) ⌝ }
-    ensures { λ r. ⌜ (a ≤ r) × (b ≤ r) × (r ≤ mostOrder) ⌝ }
-{
-    if a < b {
-        return b;
-    }
-    a
-}
-
-// The smaller of two numbers.
-fn smaller(a: usize, b: usize) -> usize
-    ensures { λ r. ⌜ (r ≤ b) × (a ≤ b → r ≡ a) × (b ≤ a → r ≡ b) ⌝ }
-{
-    if a < b {
-        return a;
-    }
-    b
-}
+use sheetread::factors::smaller;
 
 // The lent numbers into a block of zeros, the lines side by side: `many` columns of `long` numbers, or rows. Allowances lend none.
 fn lay(columns: bool, many: usize, long: usize, x: &[i32], b: &mut [i32; Block::CELLS])
@@ -90,7 +70,7 @@ fn read_off(columns: bool, many: usize, long: usize, b: &mut [i32; Block::CELLS]
         close_rows(long, many, b);
         return;
     }
-    turn(larger(long, many), b);
+    turn(many, long, b);
     close_rows(many, long, b);
 }
 
@@ -207,7 +187,7 @@ fn run_turned(
         × Bounded (limitOf (run .task)) (now b) × (length (now b) ≡ mostCells) ⌝ }
     ensures { λ r. ⌜ TurnedDone run (now (sheet .entry)) w to (now (b .entry)) r (now (b .exit)) ⌝ }
 {
-    turn(larger(w, count_at(sheet, 0)), b);
+    turn(count_at(sheet, 0), w, b);
     run_pass(run, sheet, starts, w, to, b)
 }
 

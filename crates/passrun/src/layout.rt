@@ -1,11 +1,12 @@
 // A block between its two layouts: in reading order, as it is lent, and with its lines side by side.
 ghost use mathlib.Core.Path.{_≡_};
-ghost use Prim.Native.Nat.{_+_, _*_, _≤_, _<_};
+ghost use Prim.Native.Nat.{_+_, _*_, _≤_, _<_, max};
 ghost use lib.ListN.{length};
 ghost use Rattle.rules.specs.Numbers.{mostOrder, mostCells, at};
 ghost use Rattle.factor.specs.MovedInPlace.{scattered};
 ghost use Rattle.passrun.specs.Layout.{CopiesRow, CopiesLines, copied, exchanged, turned};
 use rules::Block;
+use sheetread::factors::smaller;
 
 // Number l of a row, for each l below many: from place k + l·s of x to place j + l·t of y.
 fn copy_row(x: &[i32], k: usize, s: usize, y: &mut [i32], j: usize, t: usize, many: usize)
@@ -37,12 +38,12 @@ pub fn copy_lines(
     }
 }
 
-// Row i and column i change places, up to the diagonal.
-fn exchange(i: usize, x: &mut [i32; Block::CELLS])
-    requires { ⌜ (i < mostOrder) × (length (now x) ≡ mostCells) ⌝ }
-    ensures { λ _. ⌜ now (x .exit) ≡ exchanged i i (now (x .entry)) ⌝ }
+// The first `to` numbers of row i and of column i change places.
+fn exchange(i: usize, to: usize, x: &mut [i32; Block::CELLS])
+    requires { ⌜ (i < mostOrder) × (to ≤ i) × (length (now x) ≡ mostCells) ⌝ }
+    ensures { λ _. ⌜ now (x .exit) ≡ exchanged i to (now (x .entry)) ⌝ }
 {
-    for j in 0..i {
+    for j in 0..to {
         let a = x[i * Block::LINE + j];
         let b = x[j * Block::LINE + i];
         x[i * Block::LINE + j] = b;
@@ -50,13 +51,26 @@ fn exchange(i: usize, x: &mut [i32; Block::CELLS])
     }
 }
 
-// Rows and columns of the first n by n numbers change places: what was a line is a row of numbers of all lines then.
-pub fn turn(n: usize, x: &mut [i32; Block::CELLS])
-    requires { ⌜ (n ≤ mostOrder) × (length (now x) ≡ mostCells) ⌝ }
-    ensures { λ _. ⌜ now (x .exit) ≡ turned n (now (x .entry)) ⌝ }
+// The larger of two numbers.
+fn larger(a: usize, b: usize) -> usize
+    ensures { λ r. ⌜ r ≡ max a b ⌝ }
 {
-    for i in 0..n {
-        exchange(i, x);
+    if a < b {
+        return b;
+    }
+    a
+}
+
+// Rows and columns of a block of n by m numbers, or m by n, change places: what was a line is a row of numbers of all lines then.
+// Of two numbers that change places, one is in the first rows or columns, as many as the smaller order.
+pub fn turn(n: usize, m: usize, x: &mut [i32; Block::CELLS])
+    requires { ⌜ (n ≤ mostOrder) × (m ≤ mostOrder) × (length (now x) ≡ mostCells) ⌝ }
+    ensures { λ _. ⌜ now (x .exit) ≡ turned n m (now (x .entry)) ⌝ }
+{
+    let few = smaller(n, m);
+    let all = larger(n, m);
+    for i in 0..all {
+        exchange(i, smaller(i, few), x);
     }
 }
 

@@ -43,7 +43,7 @@ run-one-pass-requires c κs =
     let k = g .before in
     let s = S k in (
       rw (k .before .count-at2 .ensures) (first-asks (s .args .columns) (s .args .run) (s .pre .0)),
-      rw (k .count-at3 .ensures) at (g .smaller .ensures .0),
+      omega (arith, g .smaller .ensures, k .count-at3 .ensures),
       s .pre .1,
     )
 
@@ -58,7 +58,7 @@ early : (c : tie.Then1) → let a = S (K (c .before)) .args in
 early c =
     let r = c .before in
     let l = c .if1 .taken in
-    one-stages (K r .before .count-at2 .ensures) (r .before .before .smaller .ensures .1 (omega arith)) (r .run-one-pass .ensures)
+    one-stages (K r .before .count-at2 .ensures) (omega (arith, r .before .before .smaller .ensures)) (r .run-one-pass .ensures)
 
 here : (c : tie.Then1) → let a = S (K (c .before)) .args in a .stage ≤ count (a .first .now) 1
 here c = let l = c .if1 .taken in omega (arith, K (c .before) .count-at3 .ensures)
@@ -101,8 +101,8 @@ whole : (c : tie.Else1) → let a = S (K (c .before)) .args in
 whole c =
     let r = c .before in
     let l = c .if1 .left in
-    one-stages (K r .before .count-at2 .ensures)
-    (r .before .before .smaller .ensures .2 (omega arith) ∙ K r .count-at3 .ensures) (r .run-one-pass .ensures)
+    one-stages (K r .before .count-at2 .ensures) (omega (arith, r .before .before .smaller .ensures, K r .count-at3 .ensures))
+    (r .run-one-pass .ensures)
 
 over : (c : tie.Else1) → let a = S (K (c .before)) .args in count (a .first .now) 1 < a .stage
 over c = let l = c .if1 .left in let m = S (K (c .before)) .pre .2 .some in omega (arith, K (c .before) .count-at3 .ensures)

@@ -1,7 +1,7 @@
 -- Rows 16 apart are closed up (`read-columns`); where the lines are rows, they are turned to that first (`read-rows`).
-use mathlib.Core.Path.{_≡_, ap, _∙_}
+use mathlib.Core.Path.{ap, _∙_}
 use lib.ListN.{length}
-use Rattle.passrun.specs.Layout.{length-turned}
+use Rattle.passrun.specs.Layout.{length-turning}
 use Rattle.passrun.specs.BlockLaws.{read-columns, read-rows}
 use Rattle.passrun.proofs.block.read_off.Statement.{statement}
 use Rattle.passrun.proofs.block.read_off.Tie as tie
@@ -16,28 +16,23 @@ returns c =
     let a = s .args in
     rw (d .if1 .taken) (read-columns (a .many) (a .long) (s .pre .0) (s .pre .1) (s .pre .2) (c .close-rows .ensures))
 
-larger-requires : tie.Need-larger-requires
-larger-requires c κs = let p = c .before .pre in (p .1, p .0)
-
 turn-requires : tie.Need-turn-requires
-turn-requires c κs = (c .before .larger .ensures .2, c .before .before .before .pre .2)
+turn-requires c κs = c .before .before .pre
 
 close-rows-requires-2 : tie.Need-close-rows-requires-2
 close-rows-requires-2 c κs =
     let t = c .before in
-    let s = t .before .before .before .before in
-    (s .pre .0, s .pre .1, ap length (t .turn .ensures) ∙ length-turned _ (s .args .b .now) ∙ s .pre .2)
+    let s = t .before .before .before in
+    (s .pre .0, s .pre .1, ap length (t .turn .ensures) ∙ length-turning _ _ (s .args .b .now) ∙ s .pre .2)
 
 returns-2 : tie.Need-returns-2
 returns-2 c =
     let t = c .before .before in
-    let g = t .before .before in
-    let d = g .before in
+    let d = t .before .before in
     let s = d .before in
     let a = s .args in
-    let k = g .larger .ensures in
     rw (d .if1 .left)
-    (read-rows (a .many) (a .long) (g .larger .result) (k .0) (k .1) (k .2) (s .pre .2) (t .turn .ensures) (c .close-rows2 .ensures))
+    (read-rows (a .many) (a .long) (s .pre .0) (s .pre .1) (s .pre .2) (t .turn .ensures) (c .close-rows2 .ensures))
 
 pub read-off-spec : {M : Type 1} → statement M
-read-off-spec = tie.close (tie.spec close-rows-requires returns larger-requires turn-requires close-rows-requires-2 returns-2)
+read-off-spec = tie.close (tie.spec close-rows-requires returns turn-requires close-rows-requires-2 returns-2)

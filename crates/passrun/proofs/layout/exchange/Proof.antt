@@ -11,62 +11,62 @@ use Rattle.passrun.proofs.layout.exchange.Statement.{statement}
 use Rattle.passrun.proofs.layout.exchange.Tie as tie
 
 abbrev Inv-loop : tie.InvT-loop
-Inv-loop i x₀ j₀ x j = (j ≤ i) × (x ≡ exchanged i j x₀)
+Inv-loop i to x₀ j₀ x j = (j ≤ to) × (x ≡ exchanged i j x₀)
 
 abbrev μ-loop : tie.MeasureT-loop
-μ-loop i x₀ j₀ x j = i - j
+μ-loop i to x₀ j₀ x j = to - j
 
 loop-holds : tie.Need-loop-holds Inv-loop μ-loop
 unfolding exchanged
 loop-holds c = (omega arith, refl)
 
 mul-a : tie.Need-mul-a Inv-loop μ-loop
-mul-a c = let h = c .before .before .pre .0 in omega arith
+mul-a c = let p = c .before .before .pre in omega (arith, p .0, p .1)
 
 add-a : tie.Need-add-a Inv-loop μ-loop
-add-a c = let h = c .before .before .pre .0 in omega arith
+add-a c = let p = c .before .before .pre in omega (arith, p .0, p .1)
 
 mul-a-2 : tie.Need-mul-a-2 Inv-loop μ-loop
-mul-a-2 c = let h = c .before .before .pre .0 in omega arith
+mul-a-2 c = let p = c .before .before .pre in omega (arith, p .0, p .1)
 
 element-copy-out-a : tie.Need-element-copy-out-a Inv-loop μ-loop
-element-copy-out-a c = let h = c .before .before .pre .0 in omega arith
+element-copy-out-a c = let p = c .before .before .pre in omega (arith, p .0, p .1)
 
 mul-b : tie.Need-mul-b Inv-loop μ-loop
-mul-b c = let h = c .before .before .before .pre .0 in omega arith
+mul-b c = let p = c .before .before .before .pre in omega (arith, p .0, p .1)
 
 add-b : tie.Need-add-b Inv-loop μ-loop
-add-b c = let h = c .before .before .before .pre .0 in omega arith
+add-b c = let p = c .before .before .before .pre in omega (arith, p .0, p .1)
 
 mul-b-2 : tie.Need-mul-b-2 Inv-loop μ-loop
-mul-b-2 c = let h = c .before .before .before .pre .0 in omega arith
+mul-b-2 c = let p = c .before .before .before .pre in omega (arith, p .0, p .1)
 
 element-copy-out-b : tie.Need-element-copy-out-b Inv-loop μ-loop
-element-copy-out-b c = let h = c .before .before .before .pre .0 in omega arith
+element-copy-out-b c = let p = c .before .before .before .pre in omega (arith, p .0, p .1)
 
 mul-b-3 : tie.Need-mul-b-3 Inv-loop μ-loop
-mul-b-3 c = let h = c .before .before .before .before .pre .0 in omega arith
+mul-b-3 c = let p = c .before .before .before .before .pre in omega (arith, p .0, p .1)
 
 add-b-2 : tie.Need-add-b-2 Inv-loop μ-loop
-add-b-2 c = let h = c .before .before .before .before .pre .0 in omega arith
+add-b-2 c = let p = c .before .before .before .before .pre in omega (arith, p .0, p .1)
 
 mul-b-4 : tie.Need-mul-b-4 Inv-loop μ-loop
-mul-b-4 c = let h = c .before .before .before .before .pre .0 in omega arith
+mul-b-4 c = let p = c .before .before .before .before .pre in omega (arith, p .0, p .1)
 
 element-set-from-b : tie.Need-element-set-from-b Inv-loop μ-loop
-element-set-from-b c = let h = c .before .before .before .before .pre .0 in omega arith
+element-set-from-b c = let p = c .before .before .before .before .pre in omega (arith, p .0, p .1)
 
 mul-a-3 : tie.Need-mul-a-3 Inv-loop μ-loop
-mul-a-3 c = let h = c .before .before .before .before .pre .0 in omega arith
+mul-a-3 c = let p = c .before .before .before .before .pre in omega (arith, p .0, p .1)
 
 add-a-2 : tie.Need-add-a-2 Inv-loop μ-loop
-add-a-2 c = let h = c .before .before .before .before .pre .0 in omega arith
+add-a-2 c = let p = c .before .before .before .before .pre in omega (arith, p .0, p .1)
 
 mul-a-4 : tie.Need-mul-a-4 Inv-loop μ-loop
-mul-a-4 c = let h = c .before .before .before .before .pre .0 in omega arith
+mul-a-4 c = let p = c .before .before .before .before .pre in omega (arith, p .0, p .1)
 
 element-set-from-a : tie.Need-element-set-from-a Inv-loop μ-loop
-element-set-from-a c = let h = c .before .before .before .before .pre .0 in omega arith
+element-set-from-a c = let p = c .before .before .before .before .pre in omega (arith, p .0, p .1)
 
 add-j : tie.Need-add-j Inv-loop μ-loop
 add-j c = omega arith
@@ -79,7 +79,7 @@ unfolding exchanged
 loop-again c = (omega arith, rw (add-one, back w32 _ (c .b .given), back w32 _ (c .before .a .given), c .before .before .before .loop .inv .1))
 
 returns : tie.Need-returns Inv-loop μ-loop
-returns c = let e : c .before .loop .j ≡ c .before .before .args .i = omega arith in c .before .loop .inv .1 ∙ rw e
+returns c = let e : c .before .loop .j ≡ c .before .before .args .to = omega arith in c .before .loop .inv .1 ∙ rw e
 
 pub exchange-spec : {M : Type 1} → statement M
 exchange-spec =
