@@ -1,9 +1,9 @@
 -- THE PARTS OF A RUN: a block copied in and out and read off, as the code does it.
 use mathlib.Core.Bool.{Bool, true, false}
 use mathlib.Core.List.{List}
-use mathlib.Core.Logic.{_⊎_, inl, inr}
-use mathlib.Core.Path.{_≡_, refl, sym, ap, _∙_}
-use Prim.Native.Nat.{ℕ, _+_, _*_, _≤_, _<_}
+use mathlib.Core.Logic.{inl, inr}
+use mathlib.Core.Path.{_≡_, sym, ap, _∙_}
+use Prim.Native.Nat.{ℕ, _+_, _*_, _≤_}
 use native.Mathlib.Nat.{mul-le-mul}
 use native.Mathlib.Omega.{arith}
 use lib.IntN.{ℤ, pos}
@@ -13,11 +13,12 @@ use Rattle.rules.specs.Shapes.{columns, rows}
 use Rattle.factor.specs.PassLines.{linesBy}
 use Rattle.factor.specs.SumBounds.{Bounded}
 use Rattle.joint.specs.Sums.{nothing}
-use Rattle.passrun.specs.Laid.{Fits, laid, laid-bounded}
-use Rattle.passrun.specs.Layout.{CopiesLines, copied, length-copied, copied-bounded, turned, length-turning, turning-bounded}
-use Rattle.passrun.specs.Blocks.{fit-by, size-most, start-all, start-none, columns-join, rows-join, laid-in, laid-out}
+use Rattle.passrun.specs.Laid.{laid}
+use Rattle.passrun.specs.Layout.{CopiesLines, copied, length-copied, copied-bounded}
+use Rattle.passrun.specs.Layout.{turned, length-turning, turning-bounded}
+use Rattle.passrun.specs.Blocks.{fit-by, start-all, start-none, columns-join, rows-join, laid-in, laid-out}
 use Rattle.passrun.specs.Blocks.{laid-none, turned-laid, closed-laid}
-use Rattle.passrun.specs.BlockRuns.{other, sizeBy, startBlock, Lent, LaidIn, ReadOff}
+use Rattle.passrun.specs.BlockRuns.{other, sizeBy, Lent, LaidIn, ReadOff}
 
 -- ---- copied in
 pub lent-all : (x : List ℤ) {N : ℕ} → Lent x N → (length x ≡ 0 → ⊥) → length x ≡ N
@@ -43,8 +44,9 @@ module _ (many long k s : ℕ) (x : List ℤ) {b c : List ℤ} (zeros : b ≡ re
   made-small : (B : ℕ) → Bounded B x → Bounded B c
   made-small B h = rw made (copied-bounded many _ _ long (rw zeros (nothing mostCells)) (λ m l. h .small (m * k + l * s)))
 
-pub laid-columns : (many long : ℕ) (x : List ℤ) {b c : List ℤ} → many ≤ mostOrder → long ≤ mostOrder → length x ≡ sizeBy true many long →
-    b ≡ replicate mostCells (pos 0) → c ≡ copied many (λ m l. m * mostOrder + l * 1) (λ m l. at x (m * many + l * 1)) long b →
+pub laid-columns : (many long : ℕ) (x : List ℤ) {b c : List ℤ} → many ≤ mostOrder → long ≤ mostOrder →
+    length x ≡ sizeBy true many long → b ≡ replicate mostCells (pos 0) →
+    c ≡ copied many (λ m l. m * mostOrder + l * 1) (λ m l. at x (m * many + l * 1)) long b →
     LaidIn true many long x c
 unfolding linesBy sizeBy
 laid-columns many long x {b} {c} w n l z e = record {
@@ -55,8 +57,9 @@ laid-columns many long x {b} {c} w n l z e = record {
   wide = made-long many long many 1 x z e;
 }
 
-pub laid-rows : (many long : ℕ) (x : List ℤ) {b c : List ℤ} → many ≤ mostOrder → long ≤ mostOrder → length x ≡ sizeBy false many long →
-    b ≡ replicate mostCells (pos 0) → c ≡ copied many (λ m l. m * mostOrder + l * 1) (λ m l. at x (m * 1 + l * long)) long b →
+pub laid-rows : (many long : ℕ) (x : List ℤ) {b c : List ℤ} → many ≤ mostOrder → long ≤ mostOrder →
+    length x ≡ sizeBy false many long → b ≡ replicate mostCells (pos 0) →
+    c ≡ copied many (λ m l. m * mostOrder + l * 1) (λ m l. at x (m * 1 + l * long)) long b →
     LaidIn false many long x c
 unfolding linesBy sizeBy
 laid-rows many long x {b} {c} w n l z e = record {
@@ -131,7 +134,8 @@ read-columns many long {b} w n l e = record {
   wide = closed-long long many b l e;
 }
 
-pub read-rows : (many long : ℕ) {b c d : List ℤ} → many ≤ mostOrder → long ≤ mostOrder → length b ≡ mostCells → d ≡ turned many long b →
+pub read-rows : (many long : ℕ) {b c d : List ℤ} → many ≤ mostOrder → long ≤ mostOrder → length b ≡ mostCells →
+    d ≡ turned many long b →
     c ≡ copied long (λ i j. i * long + j) (λ i j. at d (i * mostOrder + j)) many d → ReadOff false many long b c
 unfolding linesBy sizeBy other
 read-rows many long {b} {c} {d} w n l t e =

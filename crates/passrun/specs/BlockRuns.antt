@@ -9,7 +9,7 @@ use lib.IntN.{ℤ, pos}
 use lib.ListN.{length, replicate, take}
 use Rattle.rules.specs.Numbers.{mostOrder, mostCells, bound, at, count}
 use Rattle.rules.specs.Factors.{factors}
-use Rattle.rules.specs.Stages.{Stage, Ran, done, fill, inside}
+use Rattle.rules.specs.Stages.{Stage, Ran, fill, inside}
 use Rattle.rules.specs.Shapes.{Lines, passStages}
 use Rattle.rules.specs.Calls.{Gives}
 use Rattle.laws.specs.Accepted.{Accepted}
@@ -144,6 +144,7 @@ pub record OneDone (columns : Bool) (run : Run) (s : List ℤ) (many : ℕ) (x :
 -- the first `to` stages of a second pass, along w lines: the block x has them the other way round, as lines of the first pass
 pub record TurnedDone (run : Run) (s : List ℤ) (w to : ℕ) (x : List ℤ) (end : Outcome) (y : List ℤ) : Type 0 where
   pub passes : (down : Bool) → let N = sizeBy down (count s 0) w in
-      PassProgress run N (oneLines (other down) w s) s to (laid N (linesBy down (count s 0) w) x) end (laid N (oneLines (other down) w s) y)
+      PassProgress run N (oneLines (other down) w s) s to (laid N (linesBy down (count s 0) w) x) end
+      (laid N (oneLines (other down) w s) y)
   pub small : end .ok ≡ true → Bounded (limitOf (run .task)) y
   pub wide : length y ≡ mostCells

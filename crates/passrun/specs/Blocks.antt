@@ -2,7 +2,7 @@
 use mathlib.Core.Bool.{Bool, true, false}
 use mathlib.Core.List.{List}
 use mathlib.Core.Logic.{_≢_}
-use mathlib.Core.Path.{_≡_, refl, sym, ap, ap₂, _∙_}
+use mathlib.Core.Path.{_≡_, refl, sym, ap, _∙_}
 use Prim.Native.Nat.{ℕ, _+_, _*_, _/_, _%_, _≤_, _<_, min, max}
 use native.Mathlib.Nat.{mul-le-mul}
 use native.Mathlib.Nat as NatL
@@ -10,22 +10,22 @@ use native.Mathlib.Omega.{arith}
 use lib.IntN.{ℤ, pos}
 use lib.ListN.{length, replicate, take, length-replicate}
 use lib.Seq.{ext-getD, getD-take, length-take-le}
-use Rattle.rules.specs.Numbers.{mostOrder, mostCells, at, count}
+use Rattle.rules.specs.Numbers.{mostOrder, mostCells, at}
 use Rattle.rules.specs.Stages.{fill}
 use Rattle.rules.specs.Shapes.{Lines, columns, rows}
 use Rattle.rules.specs.Laws.Lists.{length-fill, fill-at}
 use Rattle.rules.specs.Laws.Passes.{Tiles, columns-tile, rows-tile}
 use Rattle.laws.specs.Accepted.{Accepted, accepted-order}
 use Rattle.factor.specs.PassLines.{linesBy, lines-many, lines-long}
-use Rattle.factor.specs.SumBounds.{Bounded}
 use Rattle.joint.specs.Sums.{zero-at}
 use Rattle.passrun.specs.Laid.{placeIn, laid, Fits, length-laid, laid-at}
-use Rattle.passrun.specs.Layout.{CopiesLines, copied, Apart, copied-at, length-copied, turned, turning-at}
+use Rattle.passrun.specs.Layout.{copied, Apart, copied-at, length-copied, turned, turning-at}
 use Rattle.passrun.specs.BlockRuns.{other, sizeBy, oneSize, oneLines, startBlock}
 use Rattle.passrun.specs.PassRuns.{LinesOf}
 
 -- ---- the lines fit into the block
-pub fit-by : (down : Bool) (many long : ℕ) → many ≤ mostOrder → long ≤ mostOrder → Fits (sizeBy down many long) (linesBy down many long)
+pub fit-by : (down : Bool) (many long : ℕ) → many ≤ mostOrder → long ≤ mostOrder →
+    Fits (sizeBy down many long) (linesBy down many long)
 unfolding sizeBy linesBy
 fit-by true many long a b = record { tiles = columns-tile long many; many = a; long = b }
 fit-by false many long a b = record { tiles = rows-tile many long; many = a; long = b }
@@ -86,9 +86,11 @@ module _ {N : ℕ} {r : Lines} (h : Fits N r) {k s : ℕ} (j : Joins r k s) wher
   -- in reading order
   joins-apart : Apart (r .many) (r .long) (λ m l. m * k + l * s)
   joins-apart = record {
-    lines = λ m a b c d e f g. f (sym (t .line-join a m d c) ∙ ap (r .line) (sym (j .joins a m) ∙ g ∙ j .joins b m) ∙ t .line-join b m e c);
+    lines = λ m a b c d e f g.
+        f (sym (t .line-join a m d c) ∙ ap (r .line) (sym (j .joins a m) ∙ g ∙ j .joins b m) ∙ t .line-join b m e c);
     rows = λ a b c d e f g i z.
-        let q = sym (t .spot-join c a g (omega arith)) ∙ ap (r .spot) (sym (j .joins c a) ∙ z ∙ j .joins d b) ∙ t .spot-join d b i f in
+        let q = sym (t .spot-join c a g (omega arith)) ∙ ap (r .spot) (sym (j .joins c a) ∙ z ∙ j .joins d b)
+        ∙ t .spot-join d b i f in
         omega arith;
   }
 
@@ -103,7 +105,8 @@ module _ {N : ℕ} {r : Lines} (h : Fits N r) {k s : ℕ} (j : Joins r k s) wher
       (λ e l.
       let p : r .line e + r .spot e * mostOrder ≡ r .spot e * mostOrder + r .line e * 1 = omega arith in
       laid-at N r c e l ∙ ap (at c) p
-      ∙ copied-at (r .many) (λ m i. m * mostOrder + i * 1) (λ m i. at x (m * k + i * s)) (r .long) b (side-apart (r .many) (r .long) w)
+      ∙ copied-at (r .many) (λ m i. m * mostOrder + i * 1) (λ m i. at x (m * k + i * s)) (r .long) b
+      (side-apart (r .many) (r .long) w)
       (λ m i a d. omega arith) (r .spot e) (r .line e) (t .spot-below e l) (t .line-below e l)
       ∙ ap (at x) (j .joins (r .line e) (r .spot e) ∙ t .join-of e l))
 
@@ -142,7 +145,8 @@ turned-laid down many long b lb w n =
     let y : r .line e < many = let z = f .tiles .line-below e l in omega (arith, lines-many down many long) in
     let z : r .spot e < long = let z = f .tiles .spot-below e l in omega (arith, lines-long down many long) in
     laid-at N (linesBy (other down) long many) q e l ∙ ap (at q) (line-turned down many long e)
-    ∙ turning-at (min many long) (max many long) b lb (omega arith) (r .line e) (r .spot e) (omega arith) (omega arith) (λ d. omega arith)
+    ∙ turning-at (min many long) (max many long) b lb (omega arith) (r .line e) (r .spot e) (omega arith) (omega arith)
+    (λ d. omega arith)
     ∙ ap (at b) p ∙ sym (laid-at N r b e l))
 
 -- a number of a row stands before those of the rows after it
@@ -164,7 +168,8 @@ closed-laid m n b lb x y =
     getD-take N q e (pos 0) l ∙ ap (at q) (sym (t .join-of e l))
     ∙ copied-at n (λ i j. i * n + j) (λ i j. at b (i * mostOrder + j)) m b
     (record { lines = λ a c d e f g h i. h (omega arith); rows = λ a c d e f g h i z. below a c n d e f h z })
-    (λ a c d i. let u = t .join-below c a i d in omega (arith, mul-le-mul x y)) (e / n) (e % n) (t .spot-below e l) (t .line-below e l)
+    (λ a c d i. let u = t .join-below c a i d in omega (arith, mul-le-mul x y)) (e / n) (e % n) (t .spot-below e l)
+    (t .line-below e l)
     ∙ ap (at b) p ∙ sym (laid-at N (columns m n) b e l))
 
 -- a block of zeros

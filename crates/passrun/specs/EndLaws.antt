@@ -2,18 +2,15 @@
 -- done.
 use mathlib.Core.Bool.{Bool, true, false, not}
 use mathlib.Core.List.{List, [], _∷_, _++_, reverse, reverse-append}
-use mathlib.Core.Path.{_≡_, refl, sym, ap, ap₂, _∙_}
+use mathlib.Core.Path.{_≡_, refl, sym, ap, _∙_}
 use Prim.Native.Nat.{ℕ, _+_, _-_, _≤_, _<_}
 use native.Mathlib.Omega.{arith}
-use lib.IntN.{ℤ, pos}
-use lib.ListN.{length, replicate, length-reverse}
-use Rattle.rules.specs.declared.Answer.{Answer}
+use lib.IntN.{ℤ}
+use lib.ListN.{length, length-reverse}
 use Rattle.rules.specs.declared.Rule.{Rule}
 use Rattle.rules.specs.Numbers.{mostOrder, mostCells, bound, count}
-use Rattle.rules.specs.Shapes.{Lines}
 use Rattle.rules.specs.Stages.{Stage, Ran, done, beyond, later, run, inside, runForward, runInverse, runAllowance}
-use Rattle.rules.specs.Answers.{accepted, refusedAt}
-use Rattle.rules.specs.Calls.{Reply, Gives, reply, ranAnswer, ranMemory}
+use Rattle.rules.specs.Calls.{Gives, reply, ranAnswer, ranMemory}
 use Rattle.rules.specs.Laws.Runs.{follow, cut}
 use Rattle.rules.specs.Laws.Passes.{passes-count}
 use Rattle.laws.specs.Tests.{apart}
@@ -35,7 +32,7 @@ use Rattle.passrun.specs.Laid.{laid, laid-bounded}
 use Rattle.passrun.specs.Layout.{turned}
 use Rattle.passrun.specs.PassRuns.{passRun, PassDone, pass-starts, pass-ends, Reached, reaches, refused-passes, names-next}
 use Rattle.passrun.specs.BlockRuns.{other, startBlock, oneLines, oneRun, twoSize, firstStages, secondStages, twoStages}
-use Rattle.passrun.specs.BlockRuns.{sizeBy, LaidIn, PassAsks, OneDone, TurnedDone, namedInPass}
+use Rattle.passrun.specs.BlockRuns.{sizeBy, PassAsks, OneDone, TurnedDone, namedInPass}
 use Rattle.passrun.specs.Blocks.{start-all, start-none, sizes-turn, lines-of, turned-laid}
 
 -- ---- the block that the run starts from
@@ -73,8 +70,8 @@ twoRun columns run a z v =
 -- stages in the order in which they stand
 abbrev run-of : Run → Bool → List Stage → List ℤ → List ℤ → List ℤ → Ran
 run-of r columns ss a z v =
-    run (inside (limitOf (r .task)) (twoSize columns a z)) (takenBy r (twoSize columns a z)) (nameAfter (r .task) (twoSize columns a z))
-    (nameFirst (r .task) (twoSize columns a z)) ss v
+    run (inside (limitOf (r .task)) (twoSize columns a z)) (takenBy r (twoSize columns a z))
+    (nameAfter (r .task) (twoSize columns a z)) (nameFirst (r .task) (twoSize columns a z)) ss v
 
 first-count : (columns : Bool) (a z : List ℤ) → length (firstStages columns a z) ≡ count a 1
 first-count columns a z = passes-count (oneLines columns (count z 0) a) _ ∙ factors-count a
@@ -84,8 +81,9 @@ in-order : (run : Run) (columns : Bool) (a z v : List ℤ) →
     run-of run columns (firstStages columns a z ++ secondStages columns a z) a z v
     ≡ follow (count a 1) (run-of run columns (firstStages columns a z) a z v) (run-of run columns (secondStages columns a z) a z)
 in-order run columns a z v =
-    cut (inside (limitOf (run .task)) (twoSize columns a z)) (takenBy run (twoSize columns a z)) (nameAfter (run .task) (twoSize columns a z))
-    (nameFirst (run .task) (twoSize columns a z)) (nameFirst (run .task) (twoSize columns a z)) (firstStages columns a z)
+    cut (inside (limitOf (run .task)) (twoSize columns a z)) (takenBy run (twoSize columns a z))
+    (nameAfter (run .task) (twoSize columns a z)) (nameFirst (run .task) (twoSize columns a z))
+    (nameFirst (run .task) (twoSize columns a z)) (firstStages columns a z)
     (secondStages columns a z) v
     ∙ rw (first-count columns a z)
 
@@ -148,7 +146,8 @@ pub record PairRefused (columns : Bool) (run : Run) (a z x : List ℤ) (stage : 
   pub late : count a 1 < stage → Later columns run a z x stage
 
 pub record TwoEnded (columns : Bool) (run : Run) (a z x : List ℤ) (end : Outcome) (b : List ℤ) : Type 0 where
-  pub takes : end .ok ≡ true → pairRun columns run a z x ≡ done (laid (twoSize columns a z) (oneLines (other columns) (count a 0) z) b)
+  pub takes : end .ok ≡ true →
+      pairRun columns run a z x ≡ done (laid (twoSize columns a z) (oneLines (other columns) (count a 0) z) b)
   pub stops : end .ok ≡ false → PairRefused columns run a z x (end .stage)
   pub wide : length b ≡ mostCells
 
@@ -182,8 +181,10 @@ module _ (columns : Bool) (run : Run) {a z : List ℤ} {first second : List ℕ}
       }
 
   -- the second pass, on what the first gave
-  module _ {b : List ℤ} (g : oneRun columns run a (count z 0) x ≡ done (laid (twoSize columns a z) (oneLines columns (count z 0) a) b))
-      (small : Bounded (limitOf (run .task)) b) {to : ℕ} {end : Outcome} {d : List ℤ} (q : TurnedDone run z (count a 0) to b end d) where
+  module _ {b : List ℤ}
+      (g : oneRun columns run a (count z 0) x ≡ done (laid (twoSize columns a z) (oneLines columns (count z 0) a) b))
+      (small : Bounded (limitOf (run .task)) b) {to : ℕ} {end : Outcome} {d : List ℤ}
+      (q : TurnedDone run z (count a 0) to b end d) where
     abbrev N : ℕ
     N = twoSize columns a z
 
@@ -195,7 +196,8 @@ module _ (columns : Bool) (run : Run) {a z : List ℤ} {first second : List ℕ}
         let r = oneLines (other columns) (count a 0) z in
         reaches run N r z (q .passes columns) (pass-starts run N r z (laid-bounded N (oneLines columns (count z 0) a) small))
 
-    pub ended-second : to ≡ count z 1 → {last : Outcome} → last .ok ≡ end .ok → (end .ok ≡ false → last .stage ≡ count a 1 + end .stage) →
+    pub ended-second : to ≡ count z 1 → {last : Outcome} → last .ok ≡ end .ok →
+        (end .ok ≡ false → last .stage ≡ count a 1 + end .stage) →
         TwoEnded columns run a z x last d
     ended-second t {last} o st = record {
       takes = λ e. both-done (count a 1) _ g (pass-ends run N _ z (rw t at (second-reaches .goes (sym o ∙ e))));
@@ -228,7 +230,8 @@ module _ (columns : Bool) (run : Run) {a z : List ℤ} {first second : List ℕ}
 
 -- rows and columns exchanged, then a pass
 pub turned-done : {run : Run} {s : List ℤ} {w to : ℕ} {x c : List ℤ} {end : Outcome} {y : List ℤ} → Accepted s →
-    w ≤ mostOrder → length x ≡ mostCells → c ≡ turned (count s 0) w x → PassDone run s w to c end y → TurnedDone run s w to x end y
+    w ≤ mostOrder → length x ≡ mostCells → c ≡ turned (count s 0) w x → PassDone run s w to c end y →
+    TurnedDone run s w to x end y
 turned-done {s = s} {w = w} {x = x} a l long t d = record {
   passes = λ down.
       let N = sizeBy down (count s 0) w in

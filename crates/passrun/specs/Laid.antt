@@ -5,12 +5,11 @@ use mathlib.Core.List.{List}
 use mathlib.Core.Path.{_≡_, refl, sym, ap, ap₂, _∙_}
 use Prim.Native.Nat.{ℕ, _+_, _*_, _≤_, _<_}
 use native.Mathlib.Omega.{arith}
-use lib.IntN.{ℤ, pos, natAbs}
+use lib.IntN.{ℤ, pos}
 use lib.ListN.{length, replicate, length-replicate}
 use lib.Seq.{ext-getD}
-use Rattle.whole.specs.Diff.{Within}
 use Rattle.rules.specs.declared.Rule.{Rule}
-use Rattle.rules.specs.Numbers.{mostOrder, mostCells, at}
+use Rattle.rules.specs.Numbers.{mostOrder, at}
 use Rattle.rules.specs.Factors.{Factor}
 use Rattle.rules.specs.Stages.{fill, inside, forward, undo, allow}
 use Rattle.rules.specs.Shapes.{lineStage, Lines, passStage}
@@ -20,7 +19,7 @@ use Rattle.rules.specs.Laws.Membership.{true-false}
 use Rattle.rules.specs.Laws.Inverses.{length-forward, length-undo}
 use Rattle.rules.specs.Laws.AllowanceLaw.{length-allow}
 use Rattle.rules.specs.Laws.Passes.{Tiles}
-use Rattle.rules.specs.Laws.Along.{Holds, Lined, along-forward, along-allow, along-undo}
+use Rattle.rules.specs.Laws.Along.{Holds, along-forward, along-allow, along-undo}
 use Rattle.factor.specs.declared.run.Task.{Task}
 use Rattle.factor.specs.declared.run.Task.the-variants.{Forward, Inverse, Allowance}
 use Rattle.factor.specs.declared.run.Run.{Run}
@@ -84,7 +83,8 @@ module _ {N : ℕ} {r : Lines} (h : Fits N r) (x : List ℤ) where
     whole : {u : List ℤ} (g : ℕ → ℤ) → length u ≡ N → ((e : ℕ) → e < N → at u e ≡ g e) → u ≡ fill N g (replicate N (pos 0))
     whole {u} g l k =
         ext-getD (pos 0) _ _ (l ∙ sym (length-fill N g (replicate N (pos 0)) ∙ length-replicate N (pos 0)))
-        (λ e b. k e (omega arith) ∙ sym (fill-at N g (replicate N (pos 0)) e (omega arith) (omega (arith, length-replicate N (pos 0)))))
+        (λ e b. k e (omega arith)
+        ∙ sym (fill-at N g (replicate N (pos 0)) e (omega arith) (omega (arith, length-replicate N (pos 0)))))
 
     room : N ≤ length (laid N r x)
     room = omega (arith, length-laid N r x)
@@ -161,7 +161,8 @@ module _ {N : ℕ} {r : Lines} (h : Fits N r) (x : List ℤ) where
             split false e = e
             split true e = absurd (true-false fine (q .beyond))
               where
-                line-at : (i : ℕ) → i < r .long → at new (r .join (q .line) i) ≡ at (lineMade run (r .long) f (lane (q .line) x)) i
+                line-at : (i : ℕ) → i < r .long →
+                    at new (r .join (q .line) i) ≡ at (lineMade run (r .long) f (lane (q .line) x)) i
                 line-at i b =
                     let t = h .tiles in
                     new-at (r .join (q .line) i) (t .join-below (q .line) i (q .below) b)

@@ -1,8 +1,8 @@
 -- NUMBERS COPIED BETWEEN TWO LAYOUTS, and rows and columns that change places: as the code goes through them, and where each
 -- number is then.
 use mathlib.Core.List.{List}
-use mathlib.Core.Logic.{_≢_, _⊎_, inl, inr}
-use mathlib.Core.Path.{_≡_, refl, sym, ap, _∙_}
+use mathlib.Core.Logic.{_≢_}
+use mathlib.Core.Path.{_≡_, refl, _∙_}
 use Prim.Native.Nat.{ℕ, zero, suc, _+_, _*_, _≤_, _<_, min, max}
 use native.Mathlib.Decide.{ℕ-discrete, decLt}
 use native.Mathlib.Nat as NatL
@@ -103,7 +103,8 @@ turned n m x = turning (min n m) (max n m) x
 pub length-exchanged : (i j : ℕ) (x : List ℤ) → length (exchanged i j x) ≡ length x
 unfolding exchanged
 length-exchanged i zero x = refl
-length-exchanged i (suc j) x = length-set (set (exchanged i j x) _ _) _ _ ∙ length-set (exchanged i j x) _ _ ∙ length-exchanged i j x
+length-exchanged i (suc j) x =
+    length-set (set (exchanged i j x) _ _) _ _ ∙ length-set (exchanged i j x) _ _ ∙ length-exchanged i j x
 
 pub length-turning : (few n : ℕ) (x : List ℤ) → length (turning few n x) ≡ length x
 unfolding turning
@@ -118,12 +119,14 @@ module _ (i : ℕ) (x : List ℤ) (long : length x ≡ mostCells) where
   unfolding exchanged
   exchanged-other zero r c a b k l f g = refl
   exchanged-other (suc j) r c a b k l f g =
-      set-other (set (exchanged i j x) (i * mostOrder + j) _) (j * mostOrder + i) (r * mostOrder + c) _ (λ e. let z = g (omega arith) in omega arith)
+      set-other (set (exchanged i j x) (i * mostOrder + j) _) (j * mostOrder + i) (r * mostOrder + c) _
+      (λ e. let z = g (omega arith) in omega arith)
       ∙ set-other (exchanged i j x) (i * mostOrder + j) (r * mostOrder + c) _ (λ e. let z = f (omega arith) in omega arith)
       ∙ exchanged-other j r c a b (omega arith) l (λ e. let z = f e in omega arith) (λ e. let z = g e in omega arith)
 
   -- row i has what column i had
-  exchanged-row : (j c : ℕ) → c < j → j ≤ i → i < mostOrder → at (exchanged i j x) (i * mostOrder + c) ≡ at x (c * mostOrder + i)
+  exchanged-row : (j c : ℕ) → c < j → j ≤ i → i < mostOrder →
+      at (exchanged i j x) (i * mostOrder + c) ≡ at x (c * mostOrder + i)
   unfolding exchanged
   exchanged-row zero c a k l = absurd (omega arith)
   exchanged-row (suc j) c a k l = go (exchanged-row j c) (ℕ-discrete c j)
@@ -131,7 +134,8 @@ module _ (i : ℕ) (x : List ℤ) (long : length x ≡ mostCells) where
       go : (c < j → j ≤ i → i < mostOrder → at (exchanged i j x) (i * mostOrder + c) ≡ at x (c * mostOrder + i)) → Dec (c ≡ j) →
           at (exchanged i (suc j) x) (i * mostOrder + c) ≡ at x (c * mostOrder + i)
       go ih (yes e) =
-          rw e (set-other (set (exchanged i j x) (i * mostOrder + j) _) (j * mostOrder + i) (i * mostOrder + j) _ (λ z. omega arith)
+          rw e (set-other (set (exchanged i j x) (i * mostOrder + j) _) (j * mostOrder + i) (i * mostOrder + j) _
+          (λ z. omega arith)
           ∙ set-at (exchanged i j x) (i * mostOrder + j) _ (omega (arith, length-exchanged i j x))
           ∙ exchanged-other j j i (omega arith) l (omega arith) l (λ z. absurd (omega arith)) (λ z. omega arith))
       go ih (no e) =
@@ -140,7 +144,8 @@ module _ (i : ℕ) (x : List ℤ) (long : length x ≡ mostCells) where
           ∙ ih (omega arith) (omega arith) l
 
   -- column i has what row i had
-  exchanged-column : (j r : ℕ) → r < j → j ≤ i → i < mostOrder → at (exchanged i j x) (r * mostOrder + i) ≡ at x (i * mostOrder + r)
+  exchanged-column : (j r : ℕ) → r < j → j ≤ i → i < mostOrder →
+      at (exchanged i j x) (r * mostOrder + i) ≡ at x (i * mostOrder + r)
   unfolding exchanged
   exchanged-column zero r a k l = absurd (omega arith)
   exchanged-column (suc j) r a k l = go (exchanged-column j r) (ℕ-discrete r j)
@@ -197,7 +202,8 @@ turning-at few (suc n) x long most r c a b h =
         at (exchanged n (min n few) (turning few n x)) (r * mostOrder + c) ≡ at x (c * mostOrder + r)
     go ih (yes e) (yes f) =
         rw (e, f)
-        (exchanged-other n (turning few n x) wide (min n few) n n most most (omega arith) most (λ z. omega arith) (λ z. omega arith)
+        (exchanged-other n (turning few n x) wide (min n few) n n most most (omega arith) most (λ z. omega arith)
+        (λ z. omega arith)
         ∙ turning-rest few n x long (omega arith) n n most most (λ z. omega arith))
     go ih (yes e) (no f) =
         let l = left e f (decLt r few) in
@@ -210,8 +216,8 @@ turning-at few (suc n) x long most r c a b h =
         (exchanged-column n (turning few n x) wide (min n few) r l (omega arith) most
         ∙ turning-rest few n x long (omega arith) n r most (omega arith) (λ z. absurd (omega arith)))
     go ih (no e) (no f) =
-        exchanged-other n (turning few n x) wide (min n few) r c (omega arith) (omega arith) (omega arith) most (λ z. absurd (e z))
-        (λ z. absurd (f z))
+        exchanged-other n (turning few n x) wide (min n few) r c (omega arith) (omega arith) (omega arith) most
+        (λ z. absurd (e z)) (λ z. absurd (f z))
         ∙ ih (omega arith) (omega arith)
 
 -- numbers that change places stay in bound
@@ -246,8 +252,10 @@ close-below m n i j l a b q e =
     let k = rows-near i q in
     omega arith
 
-pub row-closed : (i n : ℕ) (x : List ℤ) {y : List ℤ} → n ≤ mostOrder → y ≡ copied n (λ r j. r * n + j) (λ r j. at x (r * mostOrder + j)) i x →
-    scattered n (λ j. i * n + j) (λ j. at y (i * mostOrder + j)) y ≡ copied n (λ r j. r * n + j) (λ r j. at x (r * mostOrder + j)) (i + 1) x
+pub row-closed : (i n : ℕ) (x : List ℤ) {y : List ℤ} → n ≤ mostOrder →
+    y ≡ copied n (λ r j. r * n + j) (λ r j. at x (r * mostOrder + j)) i x →
+    scattered n (λ j. i * n + j) (λ j. at y (i * mostOrder + j)) y
+    ≡ copied n (λ r j. r * n + j) (λ r j. at x (r * mostOrder + j)) (i + 1) x
 unfolding copied
 row-closed i n x l e =
     rw (add-one, e)

@@ -1,23 +1,22 @@
 -- ONE PASS OF A BLOCK, from the lent numbers to its end, and the element that its refusal names.
 use mathlib.Core.Bool.{Bool, true, false}
 use mathlib.Core.List.{List, [], _∷_}
-use mathlib.Core.Logic.{_⊎_, inl, inr}
-use mathlib.Core.Path.{_≡_, refl, sym, ap, _∙_}
-use Prim.Native.Nat.{ℕ, zero, suc, _+_, _-_, _*_, _≤_, _<_}
+use mathlib.Core.Logic.{inl, inr}
+use mathlib.Core.Path.{_≡_, refl}
+use Prim.Native.Nat.{ℕ, zero, suc, _+_, _*_, _≤_, _<_}
 use native.Mathlib.Decide.{decLt}
 use native.Mathlib.Nat as NatL
 use native.Mathlib.Omega.{arith}
 use lib.IntN.{ℤ, pos}
-use lib.ListN.{length, replicate, take}
+use lib.ListN.{length, take}
 use lib.Seq.{getD-take, length-take-le}
 use Rattle.whole.specs.Diff.{Within}
-use Rattle.rules.specs.Numbers.{mostOrder, mostCells, bound, at, count}
+use Rattle.rules.specs.Numbers.{bound, at, count}
 use Rattle.rules.specs.Factors.{factorAt}
-use Rattle.rules.specs.Stages.{Ran, done, beyond, inside}
+use Rattle.rules.specs.Stages.{done, beyond, inside}
 use Rattle.rules.specs.Shapes.{Lines, passStage}
 use Rattle.rules.specs.Answers.{start}
 use Rattle.rules.specs.Laws.Lists.{inside-at}
-use Rattle.laws.specs.Accepted.{Accepted}
 use Rattle.factor.specs.declared.run.Task.{Task}
 use Rattle.factor.specs.declared.run.Task.the-variants.{Forward, Inverse, Allowance}
 use Rattle.factor.specs.declared.run.Run.{Run}
@@ -28,7 +27,8 @@ use Rattle.factor.specs.StageLoops.{Refused}
 use Rattle.factor.specs.Tasks.{limitOf, inputsOf, nthStage, takenBy, nameAfter}
 use Rattle.passrun.specs.Laid.{laid, laid-bounded}
 use Rattle.passrun.specs.PassRuns.{PassStands, PassDone, pass-starts, pass-ends, reaches, refused-passes, names-next}
-use Rattle.passrun.specs.BlockRuns.{sizeBy, oneSize, oneLines, Lent, LaidIn, ReadOff, namedInPass, oneRun, PassAsks, OneDone}
+use Rattle.passrun.specs.BlockRuns.{sizeBy, oneSize, oneLines, oneRun, Lent, LaidIn, ReadOff, namedInPass}
+use Rattle.passrun.specs.BlockRuns.{PassAsks, OneDone}
 use Rattle.passrun.specs.Blocks.{lines-of}
 
 -- ---- a list in bound, number by number

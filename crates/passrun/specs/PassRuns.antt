@@ -1,8 +1,8 @@
 -- ONE PASS: the stages of a sheet's factors along the lines of a rectangle, as the loop of the code meets them.
 use mathlib.Core.Bool.{Bool, true, false}
 use mathlib.Core.List.{List}
-use mathlib.Core.Path.{_≡_, refl, sym, ap, _∙_, subst}
-use Prim.Native.Nat.{ℕ, _+_, _-_, _≤_, _<_}
+use mathlib.Core.Path.{_≡_, refl, sym, _∙_, subst}
+use Prim.Native.Nat.{ℕ, _+_, _≤_, _<_}
 use native.Mathlib.Omega.{arith}
 use lib.IntN.{ℤ}
 use lib.ListN.{length}
@@ -14,7 +14,6 @@ use Rattle.rules.specs.Answers.{start}
 use Rattle.rules.specs.Laws.Runs.{loop-start}
 use Rattle.laws.specs.Accepted.{Accepted}
 use Rattle.laws.specs.Sound.{factor-sound}
-use Rattle.factor.specs.declared.run.Task.{Task}
 use Rattle.factor.specs.declared.run.Run.{Run}
 use Rattle.factor.specs.declared.run.Outcome.{Outcome}
 use Rattle.factor.specs.SumBounds.{Bounded}

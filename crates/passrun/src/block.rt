@@ -32,7 +32,8 @@ use rules::Sheet;
 use sheetread::factors::count_at;
 use sheetread::factors::smaller;
 
-// The lent numbers into a block of zeros, the lines side by side: `many` columns of `long` numbers, or rows. Allowances lend none.
+// The lent numbers into a block of zeros, the lines side by side: `many` columns of `long` numbers, or rows. Allowances lend
+// none.
 fn lay(columns: bool, many: usize, long: usize, x: &[i32], b: &mut [i32; Block::CELLS])
     requires { ⌜ (many ≤ mostOrder) × (long ≤ mostOrder) × Lent (now x) (sizeBy columns many long)
         × (now b ≡ replicate mostCells (pos 0)) ⌝ }
@@ -174,7 +175,8 @@ pub fn run_one(
     true
 }
 
-// The first `to` stages of a second pass, along w lines. Rows and columns change places first, so that its lines lie side by side.
+// The first `to` stages of a second pass, along w lines. Rows and columns change places first, so that its lines lie side by
+// side.
 fn run_turned(
     run: Run,
     sheet: &[i32],

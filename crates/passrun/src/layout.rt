@@ -78,7 +78,8 @@ pub fn turn(n: usize, m: usize, x: &mut [i32; Block::CELLS])
 // written over before it is read.
 fn close_row(i: usize, n: usize, x: &mut [i32; Block::CELLS])
     requires { ⌜ (i < mostOrder) × (n ≤ mostOrder) × (length (now x) ≡ mostCells) ⌝ }
-    ensures { λ _. ⌜ now (x .exit) ≡ scattered n (λ j. i * n + j) (λ j. at (now (x .entry)) (i * mostOrder + j)) (now (x .entry)) ⌝ }
+    ensures { λ _. ⌜ now (x .exit) ≡ scattered n (λ j. i * n + j) (λ j. at (now (x .entry)) (i * mostOrder + j))
+        (now (x .entry)) ⌝ }
 {
     for j in 0..n {
         x[i * n + j] = x[i * Block::LINE + j];

@@ -1,9 +1,6 @@
 -- The block is read off, and the element found at its front (`named-read`).
-use mathlib.Core.Path.{_≡_}
-use Prim.Native.Nat.{ℕ, _<_}
-use Rattle.rules.specs.Numbers.{count}
 use Rattle.laws.specs.Accepted.{accepted-order, order-counts}
-use Rattle.factor.specs.Tasks.{nthStage, stage-below}
+use Rattle.factor.specs.Tasks.{stage-below}
 use Rattle.passrun.specs.OneLaws.{named-read}
 use Rattle.passrun.proofs.block.element_in_pass.Statement.{statement}
 use Rattle.passrun.proofs.block.element_in_pass.Tie as tie

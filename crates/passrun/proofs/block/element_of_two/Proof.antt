@@ -6,11 +6,10 @@ use mathlib.Core.Path.{_≡_, refl, _∙_}
 use native.Mathlib.Omega.{arith}
 use Prim.Native.Nat.{_+_, _-_, _≤_, _<_}
 use Rattle.rules.specs.Numbers.{count}
-use Rattle.rules.specs.Stages.{done}
 use Rattle.laws.specs.Accepted.{accepted-order, order-counts, count-counts}
 use Rattle.factor.specs.StageLoops.{Refused}
 use Rattle.passrun.specs.Laid.{laid}
-use Rattle.passrun.specs.BlockRuns.{OneDone, TurnedDone, oneRun, oneLines, twoSize, other}
+use Rattle.passrun.specs.BlockRuns.{OneDone, TurnedDone, oneLines, twoSize, other}
 use Rattle.passrun.specs.PassRuns.{passRun, done-passes}
 use Rattle.passrun.specs.OneLaws.{one-done, one-small, one-named}
 use Rattle.passrun.specs.EndLaws.{Later, first-asks, first-refused, second-small, second-named}
@@ -117,7 +116,8 @@ passed c = done-passes (whole c .reached) (later c .first)
 refused : (c : tie.Else1) → let a = S (K (c .before)) .args in
     Refused (passRun (a .run) (twoSize (a .columns) (a .first .now) (a .second .now))
     (oneLines (other (a .columns)) (count (a .first .now) 0) (a .second .now)) (a .second .now)
-    (laid (twoSize (a .columns) (a .first .now) (a .second .now)) (oneLines (a .columns) (count (a .second .now) 0) (a .first .now))
+    (laid (twoSize (a .columns) (a .first .now) (a .second .now))
+    (oneLines (a .columns) (count (a .second .now) 0) (a .first .now))
     (c .before .run-one-pass .last .1 .1 .1 .1 .1 .1 .1 .0))) (a .stage - count (a .first .now) 1)
 refused c = rw (done-same (later c .first) (one-done (whole c) refl (passed c))) at (later c .second)
 

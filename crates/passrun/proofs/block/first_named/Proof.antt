@@ -1,6 +1,6 @@
 -- The front of the slice has the numbers of the block.
 use borrow.Author.Needs.{needs}
-use mathlib.Core.Path.{_≡_, sym}
+use mathlib.Core.Path.{sym}
 use Prim.Native.Nat.{_*_, _≤_}
 use native.Mathlib.Nat.{mul-le-mul}
 use native.Mathlib.Omega.{arith}
@@ -41,4 +41,5 @@ returns c = search needs
 
 pub first-named-spec : {M : Type 1} → statement M
 first-named-spec =
-    tie.close (tie.spec mul-k slice-relend-prefix-pass-element slice-aggregate-pass-element pass-element-requires same-length returns)
+    tie.close
+    (tie.spec mul-k slice-relend-prefix-pass-element slice-aggregate-pass-element pass-element-requires same-length returns)

@@ -1,8 +1,6 @@
 -- Nothing is lent, and the block stays all 0 (`laid-zeros`); or the numbers are copied to their lines (`laid-in`).
-use mathlib.Core.Path.{_≡_, sym, ap, _∙_}
+use mathlib.Core.Path.{_≡_, ap}
 use lib.ListN.{length}
-use Rattle.factor.specs.PassLines.{linesBy}
-use Rattle.passrun.specs.BlockRuns.{sizeBy}
 use Rattle.passrun.specs.BlockLaws.{lent-all, laid-nothing, laid-columns, laid-rows, from-columns, from-rows, into-lines}
 use Rattle.passrun.proofs.block.lay.Statement.{statement}
 use Rattle.passrun.proofs.block.lay.Tie as tie
@@ -27,7 +25,8 @@ returns-2 c =
     let s = d .before .before in
     let a = s .args in
     let l = rw (d .if2 .taken) at (lent-all (a .x .now) (s .pre .2) (d .before .if1 .left)) in
-    rw (d .if2 .taken) (laid-columns (a .many) (a .long) (a .x .now) (s .pre .0) (s .pre .1) l (s .pre .3) (c .copy-lines .ensures))
+    rw (d .if2 .taken)
+    (laid-columns (a .many) (a .long) (a .x .now) (s .pre .0) (s .pre .1) l (s .pre .3) (c .copy-lines .ensures))
 
 copy-lines-requires-2 : tie.Need-copy-lines-requires-2
 copy-lines-requires-2 c κs =

@@ -32,7 +32,8 @@ returns c =
     let t = f .before .before in
     let s = t .before .before in
     let out = sym (t .before .is-inside .ensures) ∙ not-true _ (t .if1 .taken) in
-    run-out _ _ (s .args .x .now) _ out (s .args .run) (s .pre .input) (noted (rw (f .first-beyond .ensures) at (c .note .ensures)))
+    run-out _ _ (s .args .x .now) _ out (s .args .run) (s .pre .input)
+    (noted (rw (f .first-beyond .ensures) at (c .note .ensures)))
 
 -- what the pass asks
 asks : (e : tie.Else1) → let a = e .before .before .args in

@@ -29,7 +29,8 @@ returns c =
     let t = f .before .before in
     let s = t .before .before in
     let out = sym (t .before .is-inside .ensures) ∙ not-true _ (t .if1 .taken) in
-    run-out _ _ (s .args .x .now) _ out (s .args .run) (s .pre .input) (noted (rw (f .first-beyond .ensures) at (c .note .ensures)))
+    run-out _ _ (s .args .x .now) _ out (s .args .run) (s .pre .input)
+    (noted (rw (f .first-beyond .ensures) at (c .note .ensures)))
 
 -- what the passes ask
 asks : (e : tie.Else1) → let a = e .before .before .args in
@@ -97,13 +98,15 @@ store-requires c κs =
 stored : (c : tie.After-y) → let p = c .before .before .before .before .before .before .before .before in
     let a = p .before .before .before .before .args in
     c .before .store .last .1 .1 .1 .1 .0
-    ≡ laid (twoSize (a .columns) (a .first .now) (a .second .now)) (oneLines (other (a .columns)) (count (a .first .now) 0) (a .second .now))
+    ≡ laid (twoSize (a .columns) (a .first .now) (a .second .now))
+    (oneLines (other (a .columns)) (count (a .first .now) 0) (a .second .now))
     (p .run-two-passes .last .1 .1 .1 .1 .1 .1 .1 .0)
 stored c =
     let m = c .before .before .before .before in
     let k = m .before in
     let a = k .before .before .before .before .before .before .before .args in
-    stored-as (a .columns) (a .first .now) (a .second .now) _ (k .count-at .ensures) (m .count-at2 .ensures) (c .before .store .ensures)
+    stored-as (a .columns) (a .first .now) (a .second .now) _ (k .count-at .ensures) (m .count-at2 .ensures)
+    (c .before .store .ensures)
 
 same-length : tie.Need-same-length
 same-length c =

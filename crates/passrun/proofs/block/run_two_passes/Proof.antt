@@ -9,7 +9,7 @@ use Rattle.rules.specs.Numbers.{count}
 use Rattle.laws.specs.Tests.{apart}
 use Rattle.laws.specs.Accepted.{accepted-order, accepted-count, order-counts, count-counts}
 use Rattle.factor.specs.declared.run.Outcome.{Outcome}
-use Rattle.passrun.specs.BlockRuns.{OneDone, TurnedDone}
+use Rattle.passrun.specs.BlockRuns.{OneDone}
 use Rattle.passrun.specs.OneLaws.{one-done}
 use Rattle.passrun.specs.EndLaws.{TwoEnded, first-asks, ended-first, ended-second, one-stages, turned-stages}
 use Rattle.passrun.proofs.block.run_two_passes.Statement.{statement}
@@ -104,7 +104,8 @@ returns-2 : tie.Need-returns-2
 returns-2 c =
     let q = c .before .before in
     let r = R (q .before .before) in
-    both q _ (sym (not-true _ (c .if2 .taken))) (λ e. ap (λ (k : ℕ). k + q .run-turned .result .stage) (M r .before .count-at .ensures))
+    both q _ (sym (not-true _ (c .if2 .taken)))
+    (λ e. ap (λ (k : ℕ). k + q .run-turned .result .stage) (M r .before .count-at .ensures))
 
 returns-3 : tie.Need-returns-3
 returns-3 c = both (c .before .before) _ refl (λ e. apart (sym (not-false _ (c .if2 .left)) ∙ e))

@@ -1,5 +1,5 @@
 -- The numbers of every line, from side by side to reading order (`out-columns`, `out-rows`).
-use mathlib.Core.Path.{_≡_, ap, _∙_}
+use mathlib.Core.Path.{ap, _∙_}
 use lib.ListN.{length}
 use Rattle.passrun.specs.Layout.{length-copied}
 use Rattle.passrun.specs.BlockLaws.{from-columns, from-rows, into-lines, out-columns, out-rows}

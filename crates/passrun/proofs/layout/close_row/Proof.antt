@@ -1,6 +1,6 @@
 -- The first j numbers of the row are in their places (`close-ahead`: the next one is still in its old place).
-use mathlib.Core.Path.{_≡_, refl, ap, _∙_}
-use Prim.Native.Nat.{ℕ, _+_, _-_, _*_, _≤_, _<_}
+use mathlib.Core.Path.{_≡_, refl, _∙_}
+use Prim.Native.Nat.{_+_, _-_, _*_, _≤_}
 use native.Mathlib.Numerals.{add-one}
 use native.Mathlib.Omega.{arith}
 use mir.Syntax.{w32}
@@ -18,7 +18,7 @@ abbrev μ-loop : tie.MeasureT-loop
 μ-loop i n x₀ j₀ x j = n - j
 
 -- both places lie in the block
-near : (c : tie.In-loop Inv-loop μ-loop) → c .before .before .args .i * c .before .before .args .n ≤ c .before .before .args .i * mostOrder
+near : (c : tie.In-loop Inv-loop μ-loop) → let a = c .before .before .args in a .i * a .n ≤ a .i * mostOrder
 near c = rows-near (c .before .before .args .i) (c .before .before .pre .1)
 
 loop-holds : tie.Need-loop-holds Inv-loop μ-loop
@@ -76,7 +76,12 @@ loop-again c =
     let l = c .before .before in
     let a = l .before .args in (
       omega arith,
-      rw (add-one, back w32 _ (c .x .given), l .loop .inv .1, close-ahead (a .i) (a .n) (l .loop .j) (a .x .now) (l .before .pre .1)),
+      rw (
+        add-one,
+        back w32 _ (c .x .given),
+        l .loop .inv .1,
+        close-ahead (a .i) (a .n) (l .loop .j) (a .x .now) (l .before .pre .1),
+      ),
     )
 
 returns : tie.Need-returns Inv-loop μ-loop

@@ -25,7 +25,8 @@ close-row-requires c κs =
     let p = l .before .pre in
     let t = i .loop-test .taken in
     let q = p .0 in
-    (omega arith, p .1, ap length (l .loop .inv .1) ∙ length-copied (l .before .args .n) _ _ (l .loop .i) (l .before .args .x .now) ∙ p .2)
+    let a = l .before .args in
+    (omega arith, p .1, ap length (l .loop .inv .1) ∙ length-copied (a .n) _ _ (l .loop .i) (a .x .now) ∙ p .2)
 
 add-i : tie.Need-add-i Inv-loop μ-loop
 add-i c = let p = c .before .before .before .before .pre .0 in omega arith

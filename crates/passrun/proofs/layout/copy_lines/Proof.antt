@@ -8,7 +8,7 @@ use lib.ListN.{length}
 use mir.Syntax.{w64}
 use mir.Val.{Fits}
 use Rattle.rules.specs.Numbers.{mostOrder, mostCells, at}
-use Rattle.passrun.specs.Layout.{CopiesLines, copied, length-copied}
+use Rattle.passrun.specs.Layout.{copied, length-copied}
 use Rattle.passrun.proofs.layout.copy_lines.Statement.{statement}
 use Rattle.passrun.proofs.layout.copy_lines.Tie as tie
 

@@ -1,12 +1,11 @@
 -- The first j numbers of row i and of column i have changed places.
-use mathlib.Core.Path.{_≡_, refl, ap, _∙_}
+use mathlib.Core.Path.{_≡_, refl, _∙_}
 use Prim.Native.Nat.{_-_, _≤_}
 use native.Mathlib.Numerals.{add-one}
 use native.Mathlib.Omega.{arith}
-use lib.ListN.{length}
 use mir.Syntax.{w32}
 use Rattle.whole.specs.Machine.{back}
-use Rattle.passrun.specs.Layout.{exchanged, length-exchanged}
+use Rattle.passrun.specs.Layout.{exchanged}
 use Rattle.passrun.proofs.layout.exchange.Statement.{statement}
 use Rattle.passrun.proofs.layout.exchange.Tie as tie
 
@@ -76,7 +75,9 @@ loop-less c = omega arith
 
 loop-again : tie.Need-loop-again Inv-loop μ-loop
 unfolding exchanged
-loop-again c = (omega arith, rw (add-one, back w32 _ (c .b .given), back w32 _ (c .before .a .given), c .before .before .before .loop .inv .1))
+loop-again c =
+    let a = c .before in
+    (omega arith, rw (add-one, back w32 _ (c .b .given), back w32 _ (a .a .given), a .before .before .loop .inv .1))
 
 returns : tie.Need-returns Inv-loop μ-loop
 returns c = let e : c .before .loop .j ≡ c .before .before .args .to = omega arith in c .before .loop .inv .1 ∙ rw e

@@ -68,7 +68,11 @@ run-stage-requires c κs =
     )
 
 add-t14 : tie.Need-add-t14 Inv-loop μ-loop
-add-t14 c = let h = few (c .before .before .before .before .before) in let l = c .before .before .before .before .loop-test .taken in omega arith
+add-t14 c =
+    let i = c .before .before .before .before in
+    let h = few (i .before) in
+    let l = i .loop-test .taken in
+    omega arith
 
 -- the stage, over any such lines
 stepped :
@@ -79,8 +83,8 @@ stepped :
 stepped c N r h =
     let i = c .before .before .before in
     let s = S (i .before) in
-    told (s .args .run) h (s .pre .0) (i .before .loop .t) (i .before .loop .inv .1) (c .before .before .nth-start .ensures) (below i)
-    (c .run-stage .ensures)
+    told (s .args .run) h (s .pre .0) (i .before .loop .t) (i .before .loop .inv .1)
+    (c .before .before .nth-start .ensures) (below i) (c .run-stage .ensures)
 
 returns : tie.Need-returns Inv-loop μ-loop
 returns c =
@@ -91,14 +95,18 @@ returns c =
     record {
       passes = λ N r h.
           progress-stops (l .loop .t) (i .loop-test .taken)
-          (λ ran k. pass-stops (a .run) N r (a .sheet .now) (l .loop .t) (in-turn i) (l .loop .inv .4 N r h ran k) (stepped q N r h)
-          (not-true _ (c .if1 .taken)));
+          (λ ran k. pass-stops (a .run) N r (a .sheet .now) (l .loop .t) (in-turn i) (l .loop .inv .4 N r h ran k)
+          (stepped q N r h) (not-true _ (c .if1 .taken)));
       small = λ z. apart (sym z);
       long = q .run-stage .ensures .long;
     }
 
 add-t : tie.Need-add-t Inv-loop μ-loop
-add-t c = let h = few (c .before .before .before .before .before) in let l = c .before .before .before .before .loop-test .taken in omega arith
+add-t c =
+    let i = c .before .before .before .before in
+    let h = few (i .before) in
+    let l = i .loop-test .taken in
+    omega arith
 
 loop-less : tie.Need-loop-less Inv-loop μ-loop
 loop-less c = omega arith
@@ -114,8 +122,8 @@ loop-again c =
       l .loop .inv .1,
       q .run-stage .ensures .small yes,
       q .run-stage .ensures .long,
-      λ N r h ran k. pass-goes (a .run) N r (a .sheet .now) (l .loop .t) (in-turn i) (l .loop .inv .4 N r h ran k) (stepped q N r h)
-          yes,
+      λ N r h ran k. pass-goes (a .run) N r (a .sheet .now) (l .loop .t) (in-turn i) (l .loop .inv .4 N r h ran k)
+          (stepped q N r h) yes,
     )
 
 returns-2 : tie.Need-returns-2 Inv-loop μ-loop
