@@ -1,4 +1,6 @@
 // The calls of the library in the calling form of C, for `bench/`. Each is its call and nothing else.
+#![tactic(auto)]
+
 mod sheets; // checks of sheets, and the rest of a faulty one
 mod recipes; // recipe bytes, and the built-in recipe
 mod lines; // runs of a line

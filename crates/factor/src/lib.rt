@@ -1,4 +1,6 @@
 // A factor where it stands in its sheet: nothing is decoded or copied for a block.
+#![tactic(auto)]
+
 ghost use Rattle.std.specs.Prelude.{◌≡◌, ◌+◌, ◌≤◌, ◌<◌};
 ghost use Rattle.std.specs.Int.{w64};
 ghost use Rattle.std.proofs.Common.{Fits};
@@ -24,7 +26,7 @@ pub mod sums; // sums of entries times numbers
 
 // Where the numbers of a factor stand: its kind, its order, its row if it is of kind 4, and the places of its first sign and
 // entry.
-#[derive(Drop)]
+#[derive(Clone, Copy)]
 pub struct Layout {
     pub kind: Kind,
     pub order: usize,
@@ -34,7 +36,7 @@ pub struct Layout {
 }
 
 // The entries of a row lie side by side: from place at on those left of the diagonal, then those right of it.
-#[derive(Drop)]
+#[derive(Clone, Copy)]
 pub struct Row {
     pub at: usize,
     pub left: usize,

@@ -13,7 +13,7 @@ use sheetread::factors::count_at;
 
 // Numbers through the stages, first to last; back through them, last to first; or the allowances of the coefficients, first to
 // last.
-#[derive(Drop)]
+#[derive(Clone, Copy)]
 pub enum Task {
     Forward,
     Inverse,
@@ -21,14 +21,14 @@ pub enum Task {
 }
 
 // Which run it is: its task, and the rule by which its sums are rounded.
-#[derive(Drop)]
+#[derive(Clone, Copy)]
 pub struct Run {
     pub task: Task,
     pub rule: Rule,
 }
 
 // How it ended: whether every number was in bound; if not, the stage that has one beyond it, counted from where it began.
-#[derive(Drop)]
+#[derive(Clone, Copy)]
 pub struct Outcome {
     pub ok: bool,
     pub stage: usize,

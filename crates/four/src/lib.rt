@@ -1,5 +1,7 @@
 // One stage of a line of four numbers, the most common order: every place is a constant, so that the block stays in registers.
 // Only accepted stages are of account here: where one has a number beyond the bound, the run of any order says which.
+#![tactic(auto)]
+
 ghost use Rattle.std.specs.Prelude.{true, false};
 ghost use Rattle.rules.specs.Numbers.{bound};
 ghost use Rattle.rules.specs.Factors.{factor_at};
@@ -18,7 +20,7 @@ mod applied; // the kinds with weights, applied
 mod undone; // the kinds with weights, undone
 
 // The block so far, and whether every number was in bound.
-#[derive(Drop)]
+#[derive(Clone, Copy)]
 pub struct Four {
     pub ok: bool,
     pub block: [i32; 4],

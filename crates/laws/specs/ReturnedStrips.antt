@@ -2,7 +2,7 @@
 -- and left m in the output and bs in the bytes. Over any plan; the crate that owns the calls cites these for both shapes. Assumes
 -- nothing.
 use Rattle.std.specs.Prelude.{cond, List, ◌++◌, ◌⊎◌, ◌≢◌, ◌≡◌, refl, ℕ, ◌+◌, ◌-◌, ◌*◌, ◌≤◌, ◌<◌, eqb, ℤ, pos, nat_abs, ◌-ℤ◌, ◌*ℤ◌, length, take, drop, get_or, ◌≤ℤ◌}
-use Rattle.std.proofs.Common.{append_assoc, sym, ap, ◌∙◌, subst, arith, eq-eqb, ne_eqb, length-append, take-append-drop, length-take-le, drop-drop, drop_at}
+use Rattle.std.proofs.Common.{append_assoc, sym, ap, ap₂, ◌∙◌, subst, arith, eq-eqb, ne_eqb, length-append, take-append-drop, length-take-le, drop-drop, drop_at}
 use Rattle.std.proofs.Math.Decide.{dec_lt, ℕ_discrete}
 use Rattle.rules.specs.declared.Answer.{Answer}
 use Rattle.rules.specs.Numbers.{unit, at}
@@ -124,10 +124,11 @@ pub same_block :
     (k : ℕ) → k < length b → k < length b' → block p.size k x ≡ block p.size k x' →
     block p.size k y ≡ block p.size k y' →
     (block p.size k m ≡ block p.size k m') × (get_or bs k 0 ≡ get_or bs' k 0)
-same_block {p} {call} whole h g k l i e d =
+same_block {p} {call} whole {x} {y} {m} {x'} {y'} h g k l i e d =
     let a = each-block whole h k l in
     let c = each-block whole g k i in
-    (a.0 ∙ rw (e, d) (sym c.0), a.1 ∙ rw (e, d) (sym c.1))
+    let s : block_reply p call x y k ≡ block_reply p call x' y' k = ap₂ call e d in
+    (a.0 ∙ ap (λ (r : Reply ℤ). r.memory) s ∙ sym c.0, a.1 ∙ ap (λ (r : Reply ℤ). r.answer.number) s ∙ sym c.1)
 
 pub change-one :
     {p : Plan} {call : List ℤ → List ℤ → Reply ℤ} (whole : BlockCall p call)

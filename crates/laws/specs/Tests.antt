@@ -140,6 +140,7 @@ triangle-twice zero = refl
 triangle-twice (suc n) = omega (arith, triangle-twice n)
 
 pub triangle-half : (n : ℕ) → 1 ≤ n → n * (n - 1) / 2 ≡ triangle n
+triangle-half zero h = elim h [ ]
 triangle-half (suc n) h =
     let d : suc n - 1 ≡ n = omega arith in
     let e : suc n * n ≡ triangle (suc n) * 2 = omega (arith, triangle-twice (suc n)) in

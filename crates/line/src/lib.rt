@@ -1,5 +1,7 @@
 // The line: forward, inverse and allowance runs of a block of n numbers over one sheet, by the rule of a number. The calls ask
 // nothing of their callers: whatever is lent is answered, and a refused call leaves the output as it was.
+#![tactic(auto)]
+
 ghost use Rattle.std.specs.Prelude.{◌≡◌, length};
 ghost use Rattle.rules.specs.Numbers.{most_count};
 ghost use Rattle.rules.specs.Calls.{Gives, line, ruled, forward_call, inverse_call, allowance_call};

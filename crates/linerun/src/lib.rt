@@ -1,4 +1,6 @@
 // A line's block through the stages of a checked sheet.
+#![tactic(auto)]
+
 pub mod steps; // one element; what a factor does to allowances
 mod kinds; // a loop for each kind
 mod stages; // one stage: the factor at a place of the sheet

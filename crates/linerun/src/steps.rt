@@ -23,7 +23,7 @@ use factor::{Layout, Row, row_of};
 use rules::{Block, Rule};
 
 // The block by value, and how it ended. Nobody looks at the block of a stage that is refused.
-#[derive(Drop)]
+#[derive(Clone, Copy)]
 pub struct Passed {
     pub block: [i32; Block::LINE],
     pub outcome: Outcome,

@@ -39,7 +39,7 @@ fn look_at(
 }
 
 // How a search went: on, or to an element beyond the bound.
-#[derive(Drop)]
+#[derive(Clone, Copy)]
 pub struct Looked {
     pub on: bool,
     pub element: usize,

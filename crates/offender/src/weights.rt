@@ -17,7 +17,7 @@ use factor::{before_lower, before_upper, layout_at};
 use rules::{Kind, Scale};
 
 // What a stage is made of: a pair of factors of a rectangle, or a factor along every line of one.
-#[derive(Drop)]
+#[derive(Clone, Copy)]
 pub enum Shape {
     Joint,
     Pass,
@@ -25,7 +25,7 @@ pub enum Shape {
 
 // The stage that is refused: its shape, and the orders and the places of its factors in the two sheets. A pass has one factor, of
 // n1 numbers, along n2 lines, which go down or are rows; its place stands twice here.
-#[derive(Drop)]
+#[derive(Clone, Copy)]
 pub struct Refused {
     pub shape: Shape,
     pub down: bool,

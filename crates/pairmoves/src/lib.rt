@@ -1,4 +1,6 @@
 // A pair of permutations, for numbers and allowances alike: from one block to another, and in place.
+#![tactic(auto)]
+
 ghost use Rattle.std.specs.Prelude.{◌≡◌, ◌+◌, ◌*◌, ◌≤◌, length};
 ghost use Rattle.factor.specs.LayoutInSheet.{Moves};
 ghost use Rattle.factor.specs.MovedInPlace.{moved_by};

@@ -10,7 +10,7 @@ ghost use Rattle.passstage.specs.Parts.{whole, rest, most_part, Raised, parts_su
 use rules::Block;
 
 // The parts of a number.
-#[derive(Drop)]
+#[derive(Clone, Copy)]
 pub struct Parts {}
 
 impl Parts {

@@ -1,5 +1,7 @@
 // Text put into a lent slice from a place on. Each function answers the place after its text; what passes the slice's end is left
 // out.
+#![tactic(auto)]
+
 ghost use Rattle.std.specs.Prelude.{[], ◌∷◌, ◌≡◌, ◌≤◌, ◌<◌, max, pos, nat_abs, length};
 ghost use Rattle.printing.specs.Program.{power, digit_at, digits, decimal, spaced, line_of, refusal, replied};
 ghost use Rattle.printing.specs.Stated.{Wrote};

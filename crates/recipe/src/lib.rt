@@ -1,4 +1,6 @@
 // Recipes: the calls that read and write a sheet's bytes, and the built-in recipe.
+#![tactic(auto)]
+
 mod answers;
 mod reading;
 mod table;

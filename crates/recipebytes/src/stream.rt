@@ -9,7 +9,7 @@ ghost use Rattle.recipebytes.specs.Reading.{NumbersEnd};
 use crate::number::{code_of, code_size, read_number, value_of, write_code};
 
 // Where the numbers of some bytes end, and how many they are.
-#[derive(Drop)]
+#[derive(Clone, Copy)]
 pub struct End {
     pub place: usize,
     pub count: usize,

@@ -1,5 +1,7 @@
 // The rectangle: forward, inverse and allowance runs of a block of n1 rows by n2 numbers over a column sheet and a row sheet. The
 // calls ask nothing of their callers: whatever is lent is answered, and a refused call leaves the output as it was.
+#![tactic(auto)]
+
 ghost use Rattle.std.specs.Prelude.{◌≡◌, length};
 ghost use Rattle.rules.specs.Numbers.{most_count};
 ghost use Rattle.rules.specs.Calls.{Gives, joint, ruled, forward_call, inverse_call, allowance_call};

@@ -1,4 +1,6 @@
 // A rectangle's block through the stages of two checked sheets.
+#![tactic(auto)]
+
 mod triangles; // a pair of lower or of upper factors
 mod singles; // a pair of single-row factors
 mod allowances; // a pair of factors with weights, on allowances

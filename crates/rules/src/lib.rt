@@ -1,11 +1,13 @@
 // The types of document 01: what a sheet and a block may hold, and what a call answers.
 // The definitions of specs/ speak of these types; the crates above compute with them.
+#![tactic(auto)]
+
 ghost use Rattle.std.specs.Prelude.{◌≡◌};
 ghost use Rattle.rules.specs.Answers.{accepted, counted, refused, refused_at};
 
 // A sheet: the numbers of one recipe. The limits of "Numbers and their bounds" that bound a sheet's numbers are named here. A
 // call is lent a sheet as a slice, so the type has no fields.
-#[derive(Drop)]
+#[derive(Clone, Copy)]
 pub struct Sheet {}
 
 impl Sheet {
@@ -32,7 +34,7 @@ impl Sheet {
 }
 
 // A block: the numbers of one run. A call is lent a block as a slice, too.
-#[derive(Drop)]
+#[derive(Clone, Copy)]
 pub struct Block {}
 
 impl Block {
@@ -51,7 +53,7 @@ impl Block {
 // The scales at which a sum is rounded: entries of a line count in 1/4096, products of two entries in 1/16777216. A shift to the
 // right by so many bits divides by the scale, downward; with half a scale added before it to the nearest, with a scale less 1
 // upward.
-#[derive(Drop)]
+#[derive(Clone, Copy)]
 pub struct Scale {}
 
 impl Scale {
@@ -76,7 +78,7 @@ impl Scale {
 }
 
 // The four kinds of factor.
-#[derive(Drop)]
+#[derive(Clone, Copy)]
 pub enum Kind {
     Permutation,
     Lower,
@@ -86,7 +88,7 @@ pub enum Kind {
 
 // The rule by which a sum is rounded: to the nearest whole number with halves upward, as document 01 has it; downward; to the
 // nearest with halves to the even one.
-#[derive(Drop)]
+#[derive(Clone, Copy)]
 pub enum Rule {
     Nearest,
     Down,
@@ -101,7 +103,7 @@ impl Rule {
 }
 
 // What a number of a sheet stands for: with a row or a place the order, and with a place where its permutation starts.
-#[derive(Drop)]
+#[derive(Clone, Copy)]
 pub enum Item {
     Order,
     Count,
@@ -113,14 +115,14 @@ pub enum Item {
 }
 
 // Where a reader stands: number 0 and the next place, or a fault's number and its place.
-#[derive(Drop)]
+#[derive(Clone, Copy)]
 pub struct Mark {
     pub number: u32,
     pub place: usize,
 }
 
 // The number that some bytes spell: how many bytes, and the code; size 0 if they spell none.
-#[derive(Drop)]
+#[derive(Clone, Copy)]
 pub struct Spelt {
     pub size: usize,
     pub code: u32,
@@ -135,7 +137,7 @@ impl Spelt {
 
 // What each call answers. The element is that of a block, counted row by row, whose number lies beyond the bound.
 #[repr(C)]
-#[derive(Drop)]
+#[derive(Clone, Copy)]
 pub struct Answer {
     pub number: u32,
     pub side: u32,

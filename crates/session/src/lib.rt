@@ -1,4 +1,6 @@
 // A session of the program: the text that it prints for the bytes that it was given.
+#![tactic(auto)]
+
 ghost use Rattle.std.specs.Prelude.{◌≡◌, ◌≤◌, length};
 ghost use Rattle.rules.specs.Recipes.{numbers_of};
 ghost use Rattle.printing.specs.Program.{limit, afterwards, ran, printed};

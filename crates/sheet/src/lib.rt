@@ -1,4 +1,6 @@
 // The calls on sheets, by the rules 1 to 9 and 12 of document 01. They ask nothing of their callers.
+#![tactic(auto)]
+
 ghost use Rattle.std.specs.Prelude.{◌≡◌};
 ghost use Rattle.rules.specs.Answers.{checked, pair_checked, IsRest};
 

@@ -1,5 +1,7 @@
 // A row of a pair of single-row factors. The column sheet's factor has entries in one row only: a row beside it looks at nothing
 // but itself, and its one sum has a scale of 4096, since the other scale is a sign's.
+#![tactic(auto)]
+
 ghost use Rattle.std.specs.Prelude.{◌≢◌, ◌≡◌, ◌+◌, ◌*◌, ◌<◌, ◌*ℤ◌, length};
 ghost use Rattle.std.specs.Int.{w32};
 ghost use Rattle.std.proofs.Common.{SFits};

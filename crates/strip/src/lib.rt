@@ -1,5 +1,7 @@
 // Whole strips: blocks laid end to end, an output of the same length, one byte for each block. The calls ask nothing of their
 // callers: whatever is lent is answered, and a refused strip leaves output and bytes as they were.
+#![tactic(auto)]
+
 ghost use Rattle.rules.specs.Calls.{line, joint, ruled};
 ghost use Rattle.rules.specs.Strips.{GivesStrip, forward_strip, inverse_strip};
 

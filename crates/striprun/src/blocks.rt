@@ -10,7 +10,7 @@ use sheetcheck::checks::{check_pair_starts, check_starts};
 use sheetread::factors::count_at;
 
 // "both shapes": lines over one sheet, or rectangles over two. A line looks at the column sheet alone.
-#[derive(Drop)]
+#[derive(Clone, Copy)]
 pub enum Shape {
     Line,
     Joint,

@@ -10,7 +10,7 @@ use trialparts::words::{MOST, blank_words, read_words};
 const MANY: u64 = 1000000000;
 
 // The places of a case's parts: where A, B, X and Y end, the answer's side, place and element, and Y after the call.
-#[derive(Drop)]
+#[derive(Clone, Copy)]
 struct Layout {
     pub a: usize,
     pub b: usize,
@@ -24,14 +24,14 @@ struct Layout {
 }
 
 // What a case showed. Call 0: there is no case, and `agrees` says that the stream ends where a case may.
-#[derive(Drop)]
+#[derive(Clone, Copy)]
 struct Verdict {
     pub call: usize,
     pub agrees: bool,
 }
 
 // How the stream ended.
-#[derive(Drop)]
+#[derive(Clone, Copy)]
 pub struct End {
     pub cases: u64,
     pub whole: bool,

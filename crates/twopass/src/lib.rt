@@ -1,6 +1,8 @@
 // Two passes over a rectangle of n1 rows by n2 numbers: a column sheet down each column, then a row sheet along each row. And one
 // pass alone. The calls ask nothing of their callers: whatever is lent is answered, and a refused call leaves the output as it
 // was.
+#![tactic(auto)]
+
 ghost use Rattle.std.specs.Prelude.{◌≡◌, length};
 ghost use Rattle.rules.specs.Numbers.{most_count};
 ghost use Rattle.rules.specs.Calls.{Gives, two_pass, order_checked, column_pass, row_pass};

@@ -1,4 +1,5 @@
 // The program: reads recipe numbers from standard input and prints what `session::text_of` says.
+#![tactic(auto)]
 
 // One byte more than the program takes, so that it sees when there are more.
 const BYTES: usize = session::LIMIT + 1;

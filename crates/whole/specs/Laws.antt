@@ -36,7 +36,7 @@ pub le_trans : {a b c : ℤ} → a ≤ℤ b → b ≤ℤ c → a ≤ℤ c
 le_trans {a} {b} {c} h k = simp lia (omega zarith)
 
 pub mul_le_mul_left : {a b : ℤ} (c : ℤ) → pos 0 ≤ℤ c → a ≤ℤ b → (c *ℤ a) ≤ℤ (c *ℤ b)
-mul_le_mul_left {a} {b} (pos n) p h = simp lia (omega (arith, NatL.mul_le_mul_right n (le_read h)))
+mul_le_mul_left {a} {b} (pos n) p h = simp lia (omega (arith, NatL.mul-le-mul_right n (le_read h)))
 mul_le_mul_left {a} {b} (negsuc n) p h = absurd p.le
 
 pub mul_le_mul_right : {a b : ℤ} (c : ℤ) → pos 0 ≤ℤ c → a ≤ℤ b → (a *ℤ c) ≤ℤ (b *ℤ c)

@@ -181,7 +181,7 @@ module _ (rule : Rule) where
       s = weighed N u v
 
       times : (a : ℕ) → unit * a ≤ share rule * S → pos (unit * (D * a)) ≤ℤ (pos (S * D) *ℤ pos (share rule))
-      times a k = simp lia (omega (arith, NatL.mul_le_mul_left D k))
+      times a k = simp lia (omega (arith, NatL.mul-le-mul_left D k))
 
       go : (b : Bool) → multiples S N u ≡ b →
           Near (S * D) (pos D *ℤ ((pos S *ℤ R rule S s) -ℤ s)) (cond b (pos 0) (pos (share rule)))
@@ -235,7 +235,7 @@ module _ (rule : Rule) where
   through-kept {N} {D} {y} {x} {b} (AllGood.more {s} {ss} g a) k =
       let e : scale s * exact_scale ss * D ≡ exact_scale ss * (scale s * D) = omega arith in
       rw e
-      (through-kept a (record {
+      (through-kept {D = scale s * D} a (record {
         long-y = omega (arith, length-forward rule N s y, k.long-y);
         long-x = omega (arith, length-exact N s x, k.long-x);
         long-b = omega (arith, length-allow N s b, k.long-b);
