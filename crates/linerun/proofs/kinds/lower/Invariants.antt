@@ -1,0 +1,14 @@
+-- The block is as m turns leave it, and in bound (`Filled`); p is where the next row starts.
+use Rattle.std.proofs.Common.{◌≡◌, ◌+◌, ◌-◌, ◌≤◌}
+use Rattle.factor.specs.Rounding.{rule_by}
+use Rattle.linerun.specs.Filling.{Filled}
+use Rattle.linerun.specs.Steps.{applied_at}
+use Rattle.rules.specs.Sheets.{triangle}
+use Rattle.rules.specs.Stages.{fill}
+use Rattle.linerun.proofs.kinds.lower.Given as goal
+
+abbrev pub invariant-loop-m : goal.invariant-loop-m
+invariant-loop-m l = (l.m ≤ l.n) × (l.n ≡ l.f.order) × (l.p ≡ l.f.entries + triangle l.m) × Filled (λ k. fill k (applied_at (rule_by l.down l.even) l.sheet l.f l.x) l.x) l.m l.y
+
+abbrev pub decreases-loop-m : goal.decreases-loop-m
+decreases-loop-m l = l.n - l.m

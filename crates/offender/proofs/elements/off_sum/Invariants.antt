@@ -1,0 +1,13 @@
+-- The sum so far is the sum of the first k terms; each term and each sum is small (`term-small`, `partial-small`).
+use Rattle.std.proofs.Common.{◌≡◌, ◌-◌, ◌≤◌, ◌*ℤ◌}
+use Rattle.offender.specs.RefusedStages.{cells, weight_of}
+use Rattle.rules.specs.Numbers.{at}
+use Rattle.rules.specs.Stages.{off}
+use Rattle.whole.specs.Stated.{sum}
+use Rattle.offender.proofs.elements.off_sum.Given as goal
+
+abbrev pub invariant-loop-k : goal.invariant-loop-k
+invariant-loop-k l = (l.k ≤ l.n) × (l.n ≡ cells l.q) × (l.sum ≡ (sum l.k (λ l.k. off (weight_of l.q l.col l.row) l.e l.k *ℤ at l.x l.k)))
+
+abbrev pub decreases-loop-k : goal.decreases-loop-k
+decreases-loop-k l = l.n - l.k

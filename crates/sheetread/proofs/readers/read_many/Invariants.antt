@@ -1,0 +1,10 @@
+-- Invariant: reading all m numbers from the start is reading those that are left from place i. Assumes nothing.
+use Rattle.std.proofs.Common.{◌≡◌, ◌-◌}
+use Rattle.rules.specs.Sheets.{times, one}
+use Rattle.sheetread.proofs.readers.read_many.Given as goal
+
+abbrev pub invariant-loop-k : goal.invariant-loop-k
+invariant-loop-k l = times l.m (one l.sheet l.what) l.start ≡ times (l.m - l.k) (one l.sheet l.what) l.i
+
+abbrev pub decreases-loop-k : goal.decreases-loop-k
+decreases-loop-k l = l.m - l.k
