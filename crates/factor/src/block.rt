@@ -4,6 +4,7 @@ ghost use Rattle.rules.specs.Numbers.{at};
 ghost use Rattle.rules.specs.Stages.{fill};
 
 // The first n numbers of a slice over the front of another.
+#[tactic(auto, unfolding(rules::specs::Stages::fill))]
 pub fn copy_front(x: &[i32], y: &mut [i32], n: usize)
     requires { (n ≤ length x.now) × (n ≤ length y.old) }
     ensures { y.new ≡ fill n (at x.now) y.old }

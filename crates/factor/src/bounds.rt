@@ -16,6 +16,7 @@ pub fn wide(z: i32) -> i64
 }
 
 // Whether every number of the input is in bound. No number ends the loop, so that several can be looked at together.
+#[tactic(auto, unfolding(rules::specs::Stages::inside))]
 pub fn is_inside(x: &[i32]) -> bool
     ensures { result ≡ inside bound (length x.now) x.now }
 {

@@ -6,6 +6,7 @@ use crate::run::{Task, inputs_of};
 use rules::Answer;
 
 // The output.
+#[tactic(auto, unfolding(crate::specs::CallAnswers::length_of))]
 pub fn check_length(size: usize, y: usize) -> Answer
     ensures { result ≡ length_of size y }
 {
@@ -16,6 +17,7 @@ pub fn check_length(size: usize, y: usize) -> Answer
 }
 
 // The input, then the output.
+#[tactic(auto, unfolding(crate::specs::CallAnswers::lengths_of))]
 pub fn check_lengths(task: Task, size: usize, x: usize, y: usize) -> Answer
     ensures { result ≡ lengths_of task size x y }
 {

@@ -73,6 +73,7 @@ fn layout_with_row(sheet: &[i32], n: usize, i: usize) -> Layout
 }
 
 // The factor whose kind number stands at i.
+#[tactic(auto, unfolding(crate::specs::Layouts::layout_by, crate::specs::Layouts::row_in, rules::specs::Factors::signs_at))]
 pub fn layout_at(sheet: &[i32], n: usize, i: usize) -> Layout
     requires { FactorRead sheet.now n i }
     ensures { result ≡ layout_at sheet.now n i }
@@ -103,6 +104,7 @@ pub fn before_upper(n: usize, m: usize) -> usize
 }
 
 // The entries of row m.
+#[tactic(auto, unfolding(crate::specs::Layouts::row_by))]
 pub fn row_of(f: Layout, m: usize) -> Row
     requires { (m < f.order) × (f.order ≤ most_order) × Fits w64 (row_of f m).at }
     ensures { result ≡ row_of f m }
@@ -149,6 +151,7 @@ pub fn row_of(f: Layout, m: usize) -> Row
 }
 
 // The element that is recovered in turn t: from the top, from the bottom, or round from the row after r, so that r is last.
+#[tactic(auto, unfolding(crate::specs::UndoingOrder::nth_undone))]
 pub fn nth_undone(f: Layout, t: usize) -> usize
     requires { (t < f.order) × (f.row < f.order) }
     ensures { result ≡ nth_undone f.kind f.order f.row t }
@@ -170,6 +173,7 @@ pub fn nth_undone(f: Layout, t: usize) -> usize
 }
 
 // Whether a factor only moves numbers.
+#[tactic(auto, unfolding(crate::specs::Layouts::is_move))]
 pub fn is_move(f: Layout) -> bool
     ensures { result ≡ is_move f.kind }
 {

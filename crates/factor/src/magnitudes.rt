@@ -19,6 +19,7 @@ pub fn magnitude(z: i32) -> i32
 }
 
 // The magnitudes of m numbers from place p on.
+#[tactic(auto, unfolding(rules::specs::Stages::fill, crate::specs::Magnitudes::magnitudes_of))]
 pub fn magnitudes(a: &[i32], p: usize, m: usize) -> [i32; Block::LINE]
     requires { Entries a.now p m }
     ensures { result ≡ magnitudes_of a.now p m }

@@ -12,6 +12,7 @@ use rules::Block;
 use sheetread::factors::count_at;
 
 // The numbers of a line into an array aside. The array is lent: by value it would stand on the stack three times.
+#[tactic(auto, unfolding(rules::specs::Stages::fill))]
 pub fn copy_line(x: &[i32], n: usize, k: usize, s: usize, v: &mut [i32; Block::LINE])
     requires { (n ≤ most_order) × LineIn n k s x.now }
     ensures { v.new ≡ fill n (λ m. at x.now (k + m * s)) v.old }
@@ -32,6 +33,7 @@ pub fn either(first: bool, a: usize, b: usize) -> usize
 }
 
 // A line from a copy of it: applied, place m takes the number of place p(m); back, the number of m goes to p(m).
+#[tactic(auto, unfolding(crate::specs::MovedInPlace::scattered, crate::specs::MovedInPlace::moved_from))]
 pub fn move_from(
     sheet: &[i32],
     f: Layout,

@@ -24,6 +24,7 @@ fn odd(q: i64) -> i64
 
 // What is added to a sum before the floor is taken: a half; nothing; or a half, and less by 1 where the floor q of the sum is
 // even, so that halves stay with it.
+#[tactic(auto, unfolding(crate::specs::Rounding::lift_by))]
 pub fn lift(down: bool, even: bool, half: i64, q: i64) -> i64
     requires { (pos 1 ≤ℤ half) × Within unit² half × Within most_roundable q }
     ensures { result ≡ pos (lift_by down even (nat_abs half) q) }
@@ -66,6 +67,7 @@ pub fn round_joint(down: bool, even: bool, s: i64) -> i64
 }
 
 // What one rounding adds to an allowance, counted in 1/4096.
+#[tactic(auto, unfolding(rules::specs::Stages::share))]
 pub fn share_of(rule: Rule) -> i64
     ensures { result ≡ pos (share rule) }
 {
@@ -77,6 +79,7 @@ pub fn share_of(rule: Rule) -> i64
 }
 
 // The quotient s / 4096 upward, for an allowance.
+#[tactic(auto, unfolding(rules::specs::Stages::ceiling))]
 pub fn raise_line(s: i64) -> i64
     requires { SFits w64 (s +ℤ pos (unit - 1)) × SFits w64 (ceiling unit s) }
     ensures { result ≡ ceiling unit s }

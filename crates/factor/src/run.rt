@@ -35,6 +35,7 @@ pub struct Outcome {
 }
 
 // The rule of a number.
+#[tactic(auto, unfolding(rules::specs::Calls::rule_of))]
 fn rule_of(number: u32) -> Rule
     ensures { result ≡ rule_of number }
 {
@@ -66,6 +67,7 @@ pub fn run_by(task: Task, number: u32) -> Run
 }
 
 // Whether sums are rounded down.
+#[tactic(auto, unfolding(crate::specs::Rounding::is_down))]
 pub fn is_down(rule: Rule) -> bool
     ensures { result ≡ is_down rule }
 {
@@ -77,6 +79,7 @@ pub fn is_down(rule: Rule) -> bool
 }
 
 // Whether halves go to the even number.
+#[tactic(auto, unfolding(crate::specs::Rounding::to_evens))]
 pub fn is_even(rule: Rule) -> bool
     ensures { result ≡ to_evens rule }
 {
@@ -109,6 +112,7 @@ pub fn is_written(other: bool, n: usize, m: usize) -> bool
 }
 
 // Whether numbers go back.
+#[tactic(auto, unfolding(crate::specs::Tasks::is_inverse))]
 pub fn is_inverse(task: Task) -> bool
     ensures { result ≡ is_inverse task }
 {
@@ -120,6 +124,7 @@ pub fn is_inverse(task: Task) -> bool
 }
 
 // How many numbers are lent for a block of n: none for allowances, which all start at 0.
+#[tactic(auto, unfolding(crate::specs::Tasks::inputs_of))]
 pub fn inputs_of(task: Task, n: usize) -> usize
     ensures { result ≡ inputs_of task n }
 {
@@ -131,6 +136,7 @@ pub fn inputs_of(task: Task, n: usize) -> usize
 }
 
 // The number of a refusal on the way.
+#[tactic(auto, unfolding(crate::specs::Tasks::number_of))]
 pub fn number_of(task: Task) -> u32
     ensures { result ≡ number_of task }
 {
@@ -151,6 +157,7 @@ pub fn note(refused: &mut [usize; 2], stage: usize, element: usize)
 }
 
 // The answer to a run that is refused there.
+#[tactic(auto, unfolding(crate::specs::Tasks::end_answer))]
 pub fn refusal_of(task: Task, refused: &[usize; 2]) -> Answer
     ensures { result ≡ end_answer (number_of task) false refused.now }
 {
@@ -158,6 +165,7 @@ pub fn refusal_of(task: Task, refused: &[usize; 2]) -> Answer
 }
 
 // Which of the factors comes after t others.
+#[tactic(auto, unfolding(crate::specs::Tasks::nth_stage))]
 fn nth_stage(task: Task, many: usize, t: usize) -> usize
     requires { t < many }
     ensures { result ≡ nth_stage task many t }

@@ -20,6 +20,7 @@ pub fn with_term(sum: i64, a: i32, x: i32) -> i64
 
 // m entries, each times the number that stands across from it. The loop counts from 0 over two parts: with other places
 // the compiler takes four products at a time, which the baseline machine has no instruction for.
+#[tactic(auto, unfolding(whole::specs::Stated::sum))]
 pub fn products_sum(a: &[i32], x: &[i32], m: usize) -> i64
     requires { Terms a.now x.now m }
     ensures { result ≡ sum m (λ j. at a.now j *ℤ at x.now j) }

@@ -12,6 +12,7 @@ use factor::sums::products_sum;
 use rules::Block;
 
 // Entry c of a factor whose entries start at place e.
+#[tactic(auto, unfolding(crate::specs::Turns::entry_at))]
 fn entry(sheet: &[i32], e: usize, c: usize) -> i32
     requires { EntryIn sheet.now e c }
     ensures { result ≡ entry_at sheet.now e c }
@@ -23,6 +24,7 @@ fn entry(sheet: &[i32], e: usize, c: usize) -> i32
 }
 
 // The rounded sum of the row of element m.
+#[tactic(auto, unfolding(crate::specs::Turns::row_sum, whole::specs::Stated::sum))]
 fn rounded_sum(
     down: bool,
     even: bool,
@@ -68,6 +70,7 @@ fn with_number(v: Four, m: usize, z: i64, left: [i32; 4]) -> Four
 }
 
 // Element m applied, from the block x into v.
+#[tactic(auto, unfolding(crate::specs::Turns::element_by))]
 pub fn applied_at(
     down: bool,
     even: bool,
@@ -90,6 +93,7 @@ pub fn applied_at(
 
 // Element m undone: its own number from the block y, the others from v. A refused block is left as 0, so that no number waits
 // for its own test before it enters the next sum.
+#[tactic(auto, unfolding(crate::specs::Turns::element_by, factor::specs::PaddedBlocks::padded_block, rules::specs::Stages::inside))]
 pub fn undone_at(
     down: bool,
     even: bool,

@@ -27,6 +27,7 @@ pub struct Four {
 }
 
 // The factor at place i, applied.
+#[tactic(auto, unfolding(rules::specs::Factors::signs_at, laws::specs::Accepted::entries_of, rules::specs::Sheets::triangle))]
 fn applied_stage(down: bool, even: bool, sheet: &[i32], i: usize, x: [i32; 4]) -> Four
     requires { FactorRead sheet.now 4 i × Bounded bound x }
     ensures { Became result (stage_on false (rule_by down even) 4 (line_stage 4 (factor_at sheet.now 4 i)) x) }
@@ -41,6 +42,7 @@ fn applied_stage(down: bool, even: bool, sheet: &[i32], i: usize, x: [i32; 4]) -
 }
 
 // The factor at place i, undone.
+#[tactic(auto, unfolding(rules::specs::Factors::signs_at, laws::specs::Accepted::entries_of, rules::specs::Sheets::triangle))]
 fn undone_stage(down: bool, even: bool, sheet: &[i32], i: usize, y: [i32; 4]) -> Four
     requires { FactorRead sheet.now 4 i × Bounded bound y }
     ensures { Became result (stage_on true (rule_by down even) 4 (line_stage 4 (factor_at sheet.now 4 i)) y) }

@@ -20,6 +20,7 @@ fn place(sheet: &[i32], p: usize, m: usize) -> usize
 }
 
 // Place m takes the number of the m-th place.
+#[tactic(auto, unfolding(factor::specs::MovedInPlace::moved_by, rules::specs::Stages::fill))]
 pub fn applied(sheet: &[i32], p: usize, x: [i32; 4]) -> Four
     requires { Stretch sheet.now (Item.Place 4 p) 4 p × Bounded bound x }
     ensures { Became result (moved_by false 4 (λ m. count sheet.now (p + m)) x) }
@@ -35,6 +36,7 @@ pub fn applied(sheet: &[i32], p: usize, x: [i32; 4]) -> Four
 }
 
 // The number of place m goes to the m-th place.
+#[tactic(auto, unfolding(factor::specs::MovedInPlace::moved_by, rules::specs::Stages::put_back))]
 pub fn undone(sheet: &[i32], p: usize, y: [i32; 4]) -> Four
     requires { Stretch sheet.now (Item.Place 4 p) 4 p × Bounded bound y }
     ensures { Became result (moved_by true 4 (λ m. count sheet.now (p + m)) y) }

@@ -15,6 +15,7 @@ use factor::{Layout, Row, row_of};
 use rules::{Block, Rule, Scale, Sheet};
 
 // The quotient s / 16777216 upward.
+#[tactic(auto, unfolding(rules::specs::Stages::ceiling))]
 fn raise_joint(s: i64) -> i64
     requires { SFits w64 (s +ℤ pos (unit² - 1)) × SFits w64 (ceiling unit² s) }
     ensures { result ≡ ceiling unit² s }
@@ -90,6 +91,7 @@ fn share_unless_whole(rule: Rule, a: bool, b: bool) -> i64
 }
 
 // What the element's allowance becomes; whole says that its row has only multiples of 4096.
+#[tactic(auto, unfolding(rules::specs::Stages::ceiling, crate::specs::Allowances::allowed_at))]
 pub fn allowed_at(
     rule: Rule,
     row: &[i32],

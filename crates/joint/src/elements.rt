@@ -82,6 +82,7 @@ pub fn rest_sums_at(
 }
 
 // The rounded sum of the element in column j, where v has nothing of the element's own number.
+#[tactic(auto, unfolding(crate::specs::Elements::rounded_rest))]
 fn rounded_rest_at(
     down: bool,
     even: bool,
@@ -105,6 +106,7 @@ fn rounded_rest_at(
 }
 
 // What the element was, where v has of its own row the numbers recovered before it.
+#[tactic(auto, unfolding(crate::specs::Elements::undone_rest))]
 pub fn undone_at(
     down: bool,
     even: bool,
@@ -154,6 +156,7 @@ fn own(d: i32, e: i32, x: i32) -> i64
 
 // What an element becomes whose sum s has its own term in it. The own term is a whole number of 16777216, so it need not be taken
 // off. But halves go to what is even without it: the own number has to be known there.
+#[tactic(auto, unfolding(crate::specs::Elements::applied_from))]
 pub fn applied_whole(down: bool, even: bool, s: i64, d: i32, e: i32, x: i32) -> i64
     requires { Within most_joint s × Sign d × Sign e × Within bound x }
     ensures { result ≡ applied_from (rule_by down even) s d e x }
@@ -162,6 +165,7 @@ pub fn applied_whole(down: bool, even: bool, s: i64, d: i32, e: i32, x: i32) -> 
 }
 
 // What an element was whose sum s has nothing of its own number.
+#[tactic(auto, unfolding(crate::specs::Elements::undone_from))]
 pub fn undone_whole(down: bool, even: bool, s: i64, d: i32, e: i32, x: i32) -> i64
     requires { Within most_joint s × Sign d × Sign e × Within bound x }
     ensures { result ≡ undone_from (rule_by down even) s d e x }

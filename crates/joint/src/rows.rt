@@ -14,6 +14,7 @@ use factor::run::Outcome;
 use rules::{Block, Rule};
 
 // The allowances of row i in place.
+#[tactic(auto, unfolding(factor::specs::InPlace::in_place))]
 pub fn allow_row(
     rule: Rule,
     col: &[i32],

@@ -22,6 +22,7 @@ pub fn with_sum(sum: i64, a: i32, v: i64) -> i64
 }
 
 // The m numbers of a from place p on, each times one of v from place k on.
+#[tactic(auto, unfolding(whole::specs::Stated::sum))]
 pub fn wide_sum(a: &[i32], p: usize, v: &[i64; Block::LINE], k: usize, m: usize) -> i64
     requires { Wide a.now p v.now k m }
     ensures { result ≡ sum m (λ j. at a.now (p + j) *ℤ at v.now (k + j)) }
@@ -35,6 +36,7 @@ pub fn wide_sum(a: &[i32], p: usize, v: &[i64; Block::LINE], k: usize, m: usize)
 
 // One row of the block more: a times each of its w numbers from place k on, into the sums v. Sums are lent, so that there is one
 // row of them, and go row by row, since the numbers of a row lie side by side.
+#[tactic(auto, unfolding(rules::specs::Stages::fill))]
 fn add_row(a: i32, x: &[i32; Block::CELLS], k: usize, w: usize, v: &mut [i64; Block::LINE])
     requires { (w ≤ most_order) × (k + w ≤ most_cells) × Within most_entry a
         × Bounded most_allowance x.now × Bounded most_column v.old }
@@ -88,6 +90,7 @@ fn is_by_fours(n: usize, most: usize) -> bool
 
 // m entries on one side of the diagonal, each times a row of the block, the first of which starts at place k. Four columns at a
 // time: four sums fit into registers, where the compiler leaves out the rest of t.
+#[tactic(auto, unfolding(rules::specs::Stages::fill))]
 fn sums_by_fours(
     a: &[i32],
     p: usize,
@@ -130,6 +133,7 @@ pub fn side_sums(
 }
 
 // The sums by fours and the row's own numbers, from place o on, each times the diagonal's weight.
+#[tactic(auto, unfolding(rules::specs::Stages::fill))]
 fn sums_by_fours_with(
     a: &[i32],
     p: usize,

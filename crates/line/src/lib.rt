@@ -18,6 +18,7 @@ use sheetread::factors::count_at;
 
 // 16 for a number that is no rule's, then 1 to 9, then 10 for the input and for the output. If there is none, the table has where
 // the factors start.
+#[tactic(auto, unfolding(rules::specs::Calls::line))]
 fn check_call(
     task: Task,
     rule: u32,
@@ -43,6 +44,7 @@ fn check_call(
 
 // The checks, then the run by that rule. All that may be refused before the run stands in one function, so that the compiler puts
 // this one into the calls.
+#[tactic(auto, unfolding(rules::specs::Calls::line, factor::specs::Tasks::end_answer))]
 fn call_by(task: Task, rule: u32, s: &[i32], x: &[i32], y: &mut [i32]) -> Answer
     requires { NoneLent task x.now }
     ensures { Gives result y.new (ruled rule (call_by task) (line s.now) x.now
@@ -61,6 +63,7 @@ fn call_by(task: Task, rule: u32, s: &[i32], x: &[i32], y: &mut [i32]) -> Answer
 }
 
 // Forward: x through the sheet's factors, first to last, into y.
+#[tactic(auto, unfolding(factor::specs::CallAnswers::NoneLent, factor::specs::Tasks::call_by))]
 pub fn forward(rule: u32, s: &[i32], x: &[i32], y: &mut [i32]) -> Answer
     ensures { Gives result y.new (ruled rule forward_call (line s.now) x.now
         y.old) }
@@ -69,6 +72,7 @@ pub fn forward(rule: u32, s: &[i32], x: &[i32], y: &mut [i32]) -> Answer
 }
 
 // Inverse: x back through the sheet's factors, last to first, into y.
+#[tactic(auto, unfolding(factor::specs::CallAnswers::NoneLent, factor::specs::Tasks::call_by))]
 pub fn inverse(rule: u32, s: &[i32], x: &[i32], y: &mut [i32]) -> Answer
     ensures { Gives result y.new (ruled rule inverse_call (line s.now) x.now
         y.old) }
@@ -77,6 +81,7 @@ pub fn inverse(rule: u32, s: &[i32], x: &[i32], y: &mut [i32]) -> Answer
 }
 
 // The allowances of the forward run's coefficients, into y.
+#[tactic(auto, unfolding(factor::specs::CallAnswers::NoneLent, factor::specs::Tasks::call_by))]
 pub fn allowance(rule: u32, s: &[i32], y: &mut [i32]) -> Answer
     ensures { Gives result y.new (ruled rule allowance_call (line s.now) y.old) }
 {

@@ -50,6 +50,7 @@ fn element(
 }
 
 // Whether the run of a block is accepted: then y has what it gives. If not, y stays, and the pair has where it is refused.
+#[tactic(auto, unfolding(factor::specs::Tasks::end_answer))]
 fn run_any(
     named: bool,
     run: Run,
@@ -83,6 +84,7 @@ fn run_any(
 }
 
 // The same; a block of four is taken by itself, for its speed.
+#[tactic(auto, unfolding(factor::specs::Tasks::end_answer))]
 pub fn run_block(
     named: bool,
     run: Run,

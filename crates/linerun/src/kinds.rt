@@ -18,6 +18,7 @@ use factor::{Layout, before_lower, nth_undone, row_of};
 use rules::{Block, Kind};
 
 // The rounded sum of row m of a lower factor, whose entries start at place p.
+#[tactic(auto, unfolding(crate::specs::Steps::rounded_sum))]
 fn left_sum(
     down: bool,
     even: bool,
@@ -34,6 +35,7 @@ fn left_sum(
 }
 
 // The rounded sum of row m of an upper factor, whose entries start at place p.
+#[tactic(auto, unfolding(crate::specs::Steps::rounded_sum))]
 fn right_sum(
     down: bool,
     even: bool,
@@ -55,6 +57,7 @@ fn right_sum(
 }
 
 // The rounded sum of row m of a factor with a single row: the others have no entries.
+#[tactic(auto, unfolding(crate::specs::Steps::rounded_sum))]
 fn single_sum(
     down: bool,
     even: bool,
@@ -73,6 +76,7 @@ fn single_sum(
 }
 
 // A lower factor, applied: every element from the old block.
+#[tactic(auto, unfolding(rules::specs::Stages::fill, rules::specs::Sheets::triangle, crate::specs::Steps::applied_at))]
 fn lower(down: bool, even: bool, sheet: &[i32], f: Layout, x: [i32; Block::LINE]) -> Passed
     requires { InSheet sheet.now f × (f.kind ≡ Kind.Lower) × Bounded bound x }
     ensures { Step bound f.order (fill f.order (applied_at (rule_by down even) sheet.now f x) x)
@@ -101,6 +105,7 @@ fn lower(down: bool, even: bool, sheet: &[i32], f: Layout, x: [i32; Block::LINE]
 }
 
 // An upper factor, applied: every element from the old block.
+#[tactic(auto, unfolding(rules::specs::Stages::fill, rules::specs::Factors::above, crate::specs::Steps::applied_at))]
 fn upper(down: bool, even: bool, sheet: &[i32], f: Layout, x: [i32; Block::LINE]) -> Passed
     requires { InSheet sheet.now f × (f.kind ≡ Kind.Upper) × Bounded bound x }
     ensures { Step bound f.order (fill f.order (applied_at (rule_by down even) sheet.now f x) x)
@@ -129,6 +134,7 @@ fn upper(down: bool, even: bool, sheet: &[i32], f: Layout, x: [i32; Block::LINE]
 }
 
 // A factor with a single row, applied: every element from the old block.
+#[tactic(auto, unfolding(rules::specs::Stages::fill, crate::specs::Steps::applied_at))]
 fn single(down: bool, even: bool, sheet: &[i32], f: Layout, x: [i32; Block::LINE]) -> Passed
     requires { InSheet sheet.now f × (f.kind ≡ Kind.Single) × Bounded bound x }
     ensures { Step bound f.order (fill f.order (applied_at (rule_by down even) sheet.now f x) x)
@@ -155,6 +161,7 @@ fn single(down: bool, even: bool, sheet: &[i32], f: Layout, x: [i32; Block::LINE
 }
 
 // A lower factor, undone.
+#[tactic(auto, unfolding(factor::specs::UndoingOrder::nth_undone, factor::specs::InPlace::in_place, rules::specs::Sheets::triangle, crate::specs::Steps::undone_at))]
 fn lower_back(down: bool, even: bool, sheet: &[i32], f: Layout, y: [i32; Block::LINE]) -> Passed
     requires { InSheet sheet.now f × (f.kind ≡ Kind.Lower) × (f.row < f.order) × Bounded bound y }
     ensures { Step bound f.order (undone_in_place (rule_by down even) sheet.now f f.order y)
@@ -184,6 +191,7 @@ fn lower_back(down: bool, even: bool, sheet: &[i32], f: Layout, y: [i32; Block::
 }
 
 // An upper factor, undone.
+#[tactic(auto, unfolding(factor::specs::UndoingOrder::nth_undone, factor::specs::InPlace::in_place, rules::specs::Factors::above, crate::specs::Steps::undone_at))]
 fn upper_back(down: bool, even: bool, sheet: &[i32], f: Layout, y: [i32; Block::LINE]) -> Passed
     requires { InSheet sheet.now f × (f.kind ≡ Kind.Upper) × (f.row < f.order) × Bounded bound y }
     ensures { Step bound f.order (undone_in_place (rule_by down even) sheet.now f f.order y)
@@ -213,6 +221,7 @@ fn upper_back(down: bool, even: bool, sheet: &[i32], f: Layout, y: [i32; Block::
 }
 
 // A factor with a single row, undone.
+#[tactic(auto, unfolding(factor::specs::UndoingOrder::nth_undone, factor::specs::InPlace::in_place, crate::specs::Steps::undone_at))]
 fn single_back(down: bool, even: bool, sheet: &[i32], f: Layout, y: [i32; Block::LINE]) -> Passed
     requires { InSheet sheet.now f × (f.kind ≡ Kind.Single) × (f.row < f.order) × Bounded bound y }
     ensures { Step bound f.order (undone_in_place (rule_by down even) sheet.now f f.order y)

@@ -16,6 +16,7 @@ use factor::{is_move, layout_at};
 use rules::Block;
 
 // A permutation moves the numbers, whatever the task; a factor with weights is taken by the task.
+#[tactic(auto, unfolding(factor::specs::Layouts::layout_at, factor::specs::Layouts::layout_by, factor::specs::Tasks::limit_of, factor::specs::Tasks::stage_by))]
 pub fn run_stage(run: Run, sheet: &[i32], n: usize, i: usize, x: [i32; Block::LINE]) -> Passed
     requires { (1 ≤ n) × (n ≤ most_order) × FactorRead sheet.now n i × Bounded (limit_of run.task) x }
     ensures { Step (limit_of run.task) n (taken_by run n (line_stage n (factor_at sheet.now n i)) x)

@@ -81,6 +81,7 @@ fn column_of(r: Row, m: usize, j: usize) -> usize
 
 // The sum of the magnitudes of row m, each times the allowance of its column. Nobody waits for allowances, so what counts is that
 // they need little stack: the sum goes through the row's entries in one loop, and keeps no array of their magnitudes.
+#[tactic(auto, unfolding(whole::specs::Stated::sum))]
 fn magnitude_sum_at(sheet: &[i32], r: Row, m: usize, b: &[i32; Block::LINE]) -> i64
     requires { RowIn sheet.now most_order r m × Bounded most_allowance b.now }
     ensures { result ≡ along (magnitude_at sheet.now) r m b.now }
@@ -95,6 +96,7 @@ fn magnitude_sum_at(sheet: &[i32], r: Row, m: usize, b: &[i32; Block::LINE]) -> 
 }
 
 // What the allowance of element m becomes.
+#[tactic(auto, unfolding(rules::specs::Stages::ceiling, crate::specs::Steps::allowed_at))]
 pub fn allowed_at(rule: Rule, sheet: &[i32], f: Layout, m: usize, b: &[i32; Block::LINE]) -> i64
     requires { InSheet sheet.now f × (m < f.order) × Bounded most_allowance b.now }
     ensures { result ≡ allowed_at rule sheet.now f b.now m }
@@ -110,6 +112,7 @@ pub fn allowed_at(rule: Rule, sheet: &[i32], f: Layout, m: usize, b: &[i32; Bloc
 }
 
 // The allowances after a factor with weights.
+#[tactic(auto, unfolding(rules::specs::Stages::fill))]
 pub fn allow_weights(rule: Rule, sheet: &[i32], f: Layout, b: [i32; Block::LINE]) -> Passed
     requires { InSheet sheet.now f × Bounded most_allowance b }
     ensures { Step most_allowance f.order (fill f.order (allowed_at rule sheet.now f b) b)

@@ -12,6 +12,7 @@ use factor::run::{is_down, is_even};
 use rules::Rule;
 
 // The same weight; an element's own is left out.
+#[tactic(auto, unfolding(rules::specs::Stages::off))]
 fn off_at(q: Refused, col: &[i32], row: &[i32], e: usize, k: usize) -> i64
     requires { Weighed q col.now row.now × (e < cells q) × (k < cells q) }
     ensures { result ≡ off (weight_of q col.now row.now) e k }
@@ -31,6 +32,7 @@ fn with_product(sum: i64, w: i64, x: i64) -> i64
 }
 
 // The sum of element e.
+#[tactic(auto, unfolding(whole::specs::Stated::sum, rules::specs::Stages::weighed))]
 fn off_sum(q: Refused, col: &[i32], row: &[i32], e: usize, x: &[i32]) -> i64
     requires { Given q col.now row.now x.now × (e < cells q) }
     ensures { result ≡ weighed (cells q) (off (weight_of q col.now row.now) e) x.now }
@@ -44,6 +46,7 @@ fn off_sum(q: Refused, col: &[i32], row: &[i32], e: usize, x: &[i32]) -> i64
 }
 
 // The same, rounded.
+#[tactic(auto, unfolding(crate::specs::RefusedStages::scale_by))]
 fn rounded_sum(rule: Rule, q: Refused, col: &[i32], row: &[i32], e: usize, x: &[i32]) -> i64
     requires { Given q col.now row.now x.now × (e < cells q) }
     ensures { result ≡ R rule (scale_by q.shape)

@@ -46,6 +46,7 @@ pub struct Looked {
 }
 
 // The elements of turn t, in reading order.
+#[tactic(auto, unfolding(rules::specs::Stages::those))]
 fn look_in_turn(
     back: bool,
     rule: Rule,
@@ -77,6 +78,7 @@ fn look_in_turn(
 
 // The first element beyond the bound; 0 if there is none. The search stops there: a later sum of an inverse run could leave 64
 // bits.
+#[tactic(auto, unfolding(rules::specs::Shapes::by_turn, crate::specs::Search::searched))]
 pub fn first_found(
     back: bool,
     rule: Rule,

@@ -17,6 +17,7 @@ use factor::run::{Run, Task, is_inverse};
 use factor::{is_move, layout_at};
 
 // Whether a run of a task names an element: an allowance has none.
+#[tactic(auto, unfolding(crate::specs::NamedElements::is_naming))]
 fn is_naming(task: Task) -> bool
     ensures { result ≡ is_naming task }
 {
@@ -47,6 +48,7 @@ fn element(run: Run, q: Refused, col: &[i32], row: &[i32], x: &mut [i32]) -> usi
 }
 
 // A stage of a rectangle that is refused, and the block before it: the element that the answer names. The block is used up.
+#[tactic(auto, unfolding(crate::specs::RefusedStages::cells_by, crate::specs::RefusedStages::stage_shaped))]
 pub fn joint_element(
     run: Run,
     col: &[i32],
@@ -76,6 +78,7 @@ pub fn joint_element(
 }
 
 // The same of a pass: a factor of n numbers along every one of `many` columns, or rows.
+#[tactic(auto, unfolding(crate::specs::RefusedStages::cells_by, crate::specs::RefusedStages::stage_shaped))]
 pub fn pass_element(
     columns: bool,
     run: Run,

@@ -36,6 +36,7 @@ pub struct Refused {
 }
 
 // Whether a factor has an entry in row m, column k, off the diagonal.
+#[tactic(auto, unfolding(rules::specs::Factors::has_entry))]
 fn has_entry(kind: Kind, r: usize, m: usize, k: usize) -> bool
     ensures { result ≡ has_entry kind r m k }
 {
@@ -48,6 +49,7 @@ fn has_entry(kind: Kind, r: usize, m: usize, k: usize) -> bool
 }
 
 // How many entries stand before that one.
+#[tactic(auto, unfolding(rules::specs::Factors::entries_before, rules::specs::Factors::has_entry))]
 fn entries_before(kind: Kind, n: usize, r: usize, m: usize, k: usize) -> usize
     requires { (n ≤ most_order) × (m < n) × (k < n) × (m ≢ k) × (has_entry kind r m k ≡ true) }
     ensures { result ≡ entries_before kind n r m k }
@@ -109,6 +111,7 @@ fn both_signs(d: i32, e: i32) -> i32
 }
 
 // How many elements the block has.
+#[tactic(auto, unfolding(crate::specs::RefusedStages::cells_by))]
 pub fn cells_of(q: Refused) -> usize
     requires { Small q }
     ensures { result ≡ cells q }
@@ -121,6 +124,7 @@ pub fn cells_of(q: Refused) -> usize
 }
 
 // How many turns its elements are looked at in: back those of the recovery, else one.
+#[tactic(auto, unfolding(crate::specs::RefusedStages::turns_by))]
 pub fn turns_of(back: bool, q: Refused) -> usize
     requires { Small q }
     ensures { result ≡ turns back q }
@@ -136,6 +140,7 @@ pub fn turns_of(back: bool, q: Refused) -> usize
 }
 
 // The line of a pass in which element e is.
+#[tactic(auto, unfolding(factor::specs::PassLines::lines_by))]
 fn line_of(q: Refused, e: usize) -> usize
     requires { (1 ≤ q.n1) × (1 ≤ q.n2) }
     ensures { result ≡ (lines q).line e }
@@ -147,6 +152,7 @@ fn line_of(q: Refused, e: usize) -> usize
 }
 
 // Its place in that line.
+#[tactic(auto, unfolding(factor::specs::PassLines::lines_by))]
 fn spot_of(q: Refused, e: usize) -> usize
     requires { (1 ≤ q.n1) × (1 ≤ q.n2) }
     ensures { result ≡ (lines q).spot e }
@@ -158,6 +164,7 @@ fn spot_of(q: Refused, e: usize) -> usize
 }
 
 // The sign of element e.
+#[tactic(auto, unfolding(crate::specs::RefusedStages::sign_by, rules::specs::Shapes::joint_sign, rules::specs::Shapes::pass_sign))]
 pub fn sign_at(q: Refused, col: &[i32], row: &[i32], e: usize) -> i32
     requires { Weighed q col.now row.now × (e < cells q) }
     ensures { result ≡ sign_of q col.now row.now e }
@@ -173,6 +180,7 @@ pub fn sign_at(q: Refused, col: &[i32], row: &[i32], e: usize) -> i32
 }
 
 // The weight of element k in the sum of element e of a pass: of its own line.
+#[tactic(auto, unfolding(rules::specs::Shapes::pass_weight))]
 fn pass_weight(q: Refused, sheet: &[i32], e: usize, k: usize) -> i64
     requires { HasWeights sheet.now q.n1 q.i × (1 ≤ q.n1) × (1 ≤ q.n2) × (e < q.n2 * q.n1)
         × (k < q.n2 * q.n1) }
@@ -185,6 +193,7 @@ fn pass_weight(q: Refused, sheet: &[i32], e: usize, k: usize) -> i64
 }
 
 // The same of any shape.
+#[tactic(auto, unfolding(crate::specs::RefusedStages::weight_by, rules::specs::Shapes::joint_weight))]
 pub fn weight_at(q: Refused, col: &[i32], row: &[i32], e: usize, k: usize) -> i64
     requires { Weighed q col.now row.now × (e < cells q) × (k < cells q) }
     ensures { result ≡ weight_of q col.now row.now e k }
@@ -213,6 +222,7 @@ fn in_row(row: usize, m: usize) -> usize
 }
 
 // The turn of number m of n, by the kind and what the number shares with the single rows.
+#[tactic(auto, unfolding(rules::specs::Shapes::turn))]
 fn turn_of(kind: Kind, n: usize, shared: usize, m: usize) -> usize
     requires { m < n }
     ensures { result ≡ turn kind n shared m }
@@ -255,6 +265,7 @@ fn joint_turn(q: Refused, col: &[i32], row: &[i32], e: usize) -> usize
 }
 
 // In a pass: line after line.
+#[tactic(auto, unfolding(rules::specs::Factors::factor_at))]
 fn pass_turn(q: Refused, sheet: &[i32], e: usize) -> usize
     requires { Small q × FactorRead sheet.now q.n1 q.i × (1 ≤ q.n1) × (1 ≤ q.n2) × (e < q.n2 * q.n1) }
     ensures { result ≡ pass_turn (lines q) (factor_at sheet.now q.n1 q.i) e }
@@ -263,6 +274,7 @@ fn pass_turn(q: Refused, sheet: &[i32], e: usize) -> usize
 }
 
 // The turn in which element e is looked at.
+#[tactic(auto, unfolding(crate::specs::RefusedStages::turn_by, rules::specs::Factors::factor_at))]
 pub fn turn_at(back: bool, q: Refused, col: &[i32], row: &[i32], e: usize) -> usize
     requires { Weighed q col.now row.now × (e < cells q) }
     ensures { result ≡ turn_of back q col.now row.now e }

@@ -16,6 +16,7 @@ use sheetread::factors::count_at;
 
 // A row of one block as a row of another, where it starts at place k: applied, place j takes the number of place q(j) from o on;
 // back, the number of j goes to q(j). The n places of a permutation stand in its sheet, from place q on.
+#[tactic(auto, unfolding(crate::specs::MovedAside::moved_row, factor::specs::MovedInPlace::scattered))]
 fn move_row(
     row: &[i32],
     q: usize,
@@ -104,6 +105,7 @@ fn move_lines(sheet: &[i32], f: Layout, task: Task, many: usize, w: usize, s: us
 
 // In place, Y(i,j) = X(p(i),q(j)), or back: the numbers of each row by the row sheet's permutation, then those of each column by
 // the column sheet's. There is no room for a copy of the block.
+#[tactic(auto, unfolding(crate::specs::Moves::source_of))]
 pub fn move_pair(
     col: &[i32],
     fa: Layout,

@@ -8,6 +8,7 @@ use rules::Block;
 use sheetread::factors::smaller;
 
 // Number l of a row, for each l below many: from place k + l·s of x to place j + l·t of y.
+#[tactic(auto, unfolding(factor::specs::MovedInPlace::scattered))]
 fn copy_row(x: &[i32], k: usize, s: usize, y: &mut [i32], j: usize, t: usize, many: usize)
     requires { CopiesRow many k s x.now × CopiesRow many j t y.old }
     ensures { y.new ≡ scattered many (λ l. j + l * t) (λ l. at x.now (k + l * s)) y.old }
@@ -18,6 +19,7 @@ fn copy_row(x: &[i32], k: usize, s: usize, y: &mut [i32], j: usize, t: usize, ma
 }
 
 // Number m of line l, for `many` lines of `long` numbers: from place m·k + l·s of x to place m·j + l·t of y.
+#[tactic(auto, unfolding(crate::specs::Layout::copied))]
 pub fn copy_lines(
     x: &[i32],
     k: usize,
@@ -38,6 +40,7 @@ pub fn copy_lines(
 }
 
 // The first `to` numbers of row i and of column i change places.
+#[tactic(auto, unfolding(crate::specs::Layout::exchanged))]
 fn exchange(i: usize, to: usize, x: &mut [i32; Block::CELLS])
     requires { (i < most_order) × (to ≤ i) × (length x.old ≡ most_cells) }
     ensures { x.new ≡ exchanged i to x.old }
@@ -62,6 +65,7 @@ fn larger(a: usize, b: usize) -> usize
 
 // Rows and columns of a block of n by m numbers, or m by n, change places: what was a line is a row of numbers of all lines then.
 // Of two numbers that change places, one is in the first rows or columns, as many as the smaller order.
+#[tactic(auto, unfolding(crate::specs::Layout::turning))]
 pub fn turn(n: usize, m: usize, x: &mut [i32; Block::CELLS])
     requires { (n ≤ most_order) × (m ≤ most_order) × (length x.old ≡ most_cells) }
     ensures { x.new ≡ turned n m x.old }
@@ -75,6 +79,7 @@ pub fn turn(n: usize, m: usize, x: &mut [i32; Block::CELLS])
 
 // Row i of rows 16 apart, to where it stands in reading order, where rows have n numbers. The numbers go to the front, so none is
 // written over before it is read.
+#[tactic(auto, unfolding(factor::specs::MovedInPlace::scattered))]
 fn close_row(i: usize, n: usize, x: &mut [i32; Block::CELLS])
     requires { (i < most_order) × (n ≤ most_order) × (length x.old ≡ most_cells) }
     ensures { x.new ≡ scattered n (λ j. i * n + j) (λ j. at x.old (i * most_order + j))
@@ -86,6 +91,7 @@ fn close_row(i: usize, n: usize, x: &mut [i32; Block::CELLS])
 }
 
 // A block of m by n numbers whose rows stand 16 apart, in reading order.
+#[tactic(auto, unfolding(crate::specs::Layout::copied))]
 pub fn close_rows(m: usize, n: usize, x: &mut [i32; Block::CELLS])
     requires { (m ≤ most_order) × (n ≤ most_order) × (length x.old ≡ most_cells) }
     ensures { x.new ≡ copied n (λ i j. i * n + j) (λ i j. at x.old (i * most_order + j)) m

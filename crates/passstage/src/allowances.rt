@@ -13,6 +13,7 @@ use linerun::steps::allowed_at;
 use rules::{Block, Rule};
 
 // The allowances of line l. Answers whether they are all within the limit.
+#[tactic(auto, unfolding(crate::specs::Lanes::lane, factor::specs::MovedInPlace::scattered))]
 fn allow_line(rule: Rule, sheet: &[i32], f: Layout, l: usize, x: &mut [i32; Block::CELLS]) -> bool
     requires { InSheet sheet.now f × (l < most_order) × Bounded most_allowance x.old × (length x.old ≡ most_cells) }
     ensures { LineMade most_allowance f.order l (line_allowed rule sheet.now f (lane l x.old))

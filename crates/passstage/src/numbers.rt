@@ -40,6 +40,7 @@ fn made(back: bool, d: i32, x: i32, q: i32) -> i32
 
 // The first w numbers from place k on, by the sums v. Answers whether they are all in bound. No number ends the loop, so that
 // several can be made together.
+#[tactic(auto, unfolding(factor::specs::MovedInPlace::scattered))]
 pub fn make_numbers(
     back: bool,
     down: bool,
@@ -69,6 +70,7 @@ pub fn make_numbers(
 }
 
 // The numbers of a row without entries: a sign turns them.
+#[tactic(auto, unfolding(factor::specs::MovedInPlace::scattered))]
 pub fn turn_row(d: i32, k: usize, w: usize, x: &mut [i32; Block::CELLS])
     requires { RowGiven d k w x.old }
     ensures { x.new ≡ row_set k w (λ l. d *ℤ at x.old (k + l)) x.old }

@@ -14,6 +14,7 @@ use rules::Block;
 
 // The row that is taken in turn t: undone, in the order of undoing; applied, the other way round, so that no row looks at one
 // written before it.
+#[tactic(auto, unfolding(crate::specs::LaneSteps::turn_of))]
 fn row_in_turn(back: bool, f: Layout, t: usize) -> usize
     requires { (t < f.order) × (f.row < f.order) }
     ensures { result ≡ turn_of back f t }

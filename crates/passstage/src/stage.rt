@@ -28,6 +28,7 @@ fn move_lines(sheet: &[i32], f: Layout, task: Task, w: usize, x: &mut [i32; Bloc
 }
 
 // Whether it is allowances that are taken.
+#[tactic(auto, unfolding(crate::specs::LaneSteps::is_allowance))]
 fn is_allowance(task: Task) -> bool
     ensures { result ≡ is_allowance task }
 {
@@ -39,6 +40,7 @@ fn is_allowance(task: Task) -> bool
 }
 
 // Applied, undone, or on allowances, along each of w lines. Answers whether every number is in bound.
+#[tactic(auto, unfolding(factor::specs::Tasks::limit_of, factor::specs::Layouts::layout_at, factor::specs::Layouts::layout_by))]
 pub fn run_stage(
     run: Run,
     sheet: &[i32],

@@ -48,6 +48,7 @@ fn read_answer(bytes: &[u8], end: End, room: usize) -> Answer
 }
 
 // Reads a recipe into the front of out.
+#[tactic(auto, unfolding(rules::specs::Calls::read, rules::specs::Calls::reply))]
 pub fn read(bytes: &[u8], out: &mut [i32]) -> Answer
     ensures { Gives result out.new (read bytes.now out.old) }
 {

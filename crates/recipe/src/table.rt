@@ -37,6 +37,7 @@ fn copy_table(out: &mut [i32])
 
 // Writes the built-in recipe: 15, or the table. Its product is the transpose of the DCT of 001 (`cosine-close`), so the cosine
 // coefficients of a block come from the inverse run, and the forward run restores it.
+#[tactic(auto, unfolding(rules::specs::Calls::write_table))]
 pub fn built_in(out: &mut [i32]) -> Answer
     ensures { Gives result out.new (write_table built_in out.old) }
 {

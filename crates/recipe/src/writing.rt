@@ -18,6 +18,7 @@ fn write_answer(sheet: &[i32], room: usize) -> Answer
 }
 
 // Writes a recipe into the front of out.
+#[tactic(auto, unfolding(rules::specs::Calls::write, rules::specs::Calls::reply))]
 pub fn write(sheet: &[i32], out: &mut [u8]) -> Answer
     ensures { Gives result out.new (write sheet.now out.old) }
 {

@@ -30,6 +30,7 @@ fn ahead(g: u32, next: Spelt) -> Spelt
 }
 
 // The group at i before what the next groups spell. The last group is 0 only if it stands alone.
+#[tactic(auto, unfolding(rules::specs::Recipes::group))]
 fn group(bytes: &[u8], i: usize, alone: bool, next: Spelt) -> Spelt
     requires { Small 2 (128 * 128) next }
     ensures { result ≡ group alone (drop i bytes.now) next }

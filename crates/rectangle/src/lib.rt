@@ -17,6 +17,7 @@ use sheetcheck::checks::check_pair_starts;
 use sheetread::factors::count_at;
 
 // 16, then 1 to 9 and 12, then 10 for the input and for the output. If there is none, the tables have where the factors start.
+#[tactic(auto, unfolding(rules::specs::Calls::joint))]
 fn check_call(
     task: Task,
     rule: u32,
@@ -44,6 +45,7 @@ fn check_call(
 }
 
 // The checks, then the run by that rule.
+#[tactic(auto, unfolding(rules::specs::Calls::joint, factor::specs::Tasks::end_answer))]
 fn call_by(task: Task, rule: u32, col: &[i32], row: &[i32], x: &[i32], y: &mut [i32]) -> Answer
     requires { NoneLent task x.now }
     ensures { Gives result y.new
@@ -82,6 +84,7 @@ fn call_by(task: Task, rule: u32, col: &[i32], row: &[i32], x: &[i32], y: &mut [
 }
 
 // Forward: x through the pairs of factors, first to last, into y.
+#[tactic(auto, unfolding(factor::specs::CallAnswers::NoneLent, factor::specs::Tasks::call_by))]
 pub fn forward(rule: u32, col: &[i32], row: &[i32], x: &[i32], y: &mut [i32]) -> Answer
     ensures { Gives result y.new
         (ruled rule forward_call (joint col.now row.now) x.now y.old) }
@@ -90,6 +93,7 @@ pub fn forward(rule: u32, col: &[i32], row: &[i32], x: &[i32], y: &mut [i32]) ->
 }
 
 // Inverse: x back through the pairs of factors, last to first, into y.
+#[tactic(auto, unfolding(factor::specs::CallAnswers::NoneLent, factor::specs::Tasks::call_by))]
 pub fn inverse(rule: u32, col: &[i32], row: &[i32], x: &[i32], y: &mut [i32]) -> Answer
     ensures { Gives result y.new
         (ruled rule inverse_call (joint col.now row.now) x.now y.old) }
@@ -98,6 +102,7 @@ pub fn inverse(rule: u32, col: &[i32], row: &[i32], x: &[i32], y: &mut [i32]) ->
 }
 
 // The allowances of the forward run's coefficients, into y. They start at 0: no numbers are lent.
+#[tactic(auto, unfolding(factor::specs::CallAnswers::NoneLent, factor::specs::Tasks::call_by))]
 pub fn allowance(rule: u32, col: &[i32], row: &[i32], y: &mut [i32]) -> Answer
     ensures { Gives result y.new
         (ruled rule allowance_call (joint col.now row.now) y.old) }

@@ -7,6 +7,7 @@ use joint::rows::allow_row;
 use rules::{Block, Rule};
 
 // The allowances of all rows. The row that is undone last comes first, so that no row looks at one written before it.
+#[tactic(auto, unfolding(crate::specs::UndoingOrder::nth_row, factor::specs::Tasks::is_inverse, factor::specs::Tasks::limit_of, joint::specs::RowsInPlace::element_of, joint::specs::RowsInPlace::row_order))]
 pub fn allow_rows(
     rule: Rule,
     col: &[i32],

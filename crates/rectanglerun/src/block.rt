@@ -58,6 +58,7 @@ fn element(
 
 // Whether the run of a block is accepted: then y has what it gives. If not, y stays, and the pair has where it is refused. For
 // allowances no numbers are lent: the block is all 0, which is where allowances start.
+#[tactic(auto, unfolding(factor::specs::Tasks::end_answer))]
 pub fn run_block(
     named: bool,
     run: Run,

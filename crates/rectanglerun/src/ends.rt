@@ -17,6 +17,7 @@ use rules::{Block, Sheet};
 use sheetread::factors::count_at;
 
 // Whether the factor in turn t is a permutation.
+#[tactic(auto, unfolding(factor::specs::Layouts::layout_at, factor::specs::Layouts::layout_by))]
 fn is_moving(task: Task, sheet: &[i32], starts: &[u16; Sheet::FACTORS], t: usize) -> bool
     requires { Accepted sheet.now × Starts sheet.now starts.now × (t < count sheet.now 1) }
     ensures { result ≡ moves_in_turn sheet.now task t }

@@ -15,6 +15,7 @@ use singlerows::{
 
 // The row that a single-row factor undoes in turn t: round from the row after r. The order of any kind would make the loops below
 // too large for the compiler to write them out.
+#[tactic(auto, unfolding(factor::specs::UndoingOrder::nth_undone))]
 fn nth_single(f: Layout, t: usize) -> usize
     requires { (t < f.order) × (f.row < f.order) }
     ensures { result ≡ nth_undone Single f.order f.row t }
@@ -28,6 +29,7 @@ fn nth_single(f: Layout, t: usize) -> usize
 }
 
 // The rows beside row r applied, each in its turn, where rows have n numbers.
+#[tactic(auto, unfolding(factor::specs::Tasks::limit_of, joint::specs::RowsInPlace::element_of, joint::specs::RowsInPlace::row_order))]
 fn apply_rows_beside(
     down: bool,
     even: bool,
@@ -87,6 +89,7 @@ fn apply_all_beside(
 }
 
 // All rows applied. Row r, which looks at the others, comes first.
+#[tactic(auto, unfolding(factor::specs::Tasks::limit_of, joint::specs::RowsInPlace::element_of, joint::specs::RowsInPlace::row_order))]
 pub fn apply_single_rows(
     down: bool,
     even: bool,
@@ -111,6 +114,7 @@ pub fn apply_single_rows(
 }
 
 // The rows beside row r undone, each in its turn, where rows have n numbers.
+#[tactic(auto, unfolding(factor::specs::Tasks::limit_of, joint::specs::RowsInPlace::element_of, joint::specs::RowsInPlace::row_order))]
 fn undo_rows_beside(
     down: bool,
     even: bool,
@@ -170,6 +174,7 @@ fn undo_all_beside(
 }
 
 // All rows undone. Row r comes last, since it looks at the others as they were.
+#[tactic(auto, unfolding(factor::specs::Tasks::limit_of, joint::specs::RowsInPlace::element_of, joint::specs::RowsInPlace::row_order))]
 pub fn undo_single_rows(
     down: bool,
     even: bool,

@@ -20,6 +20,7 @@ use rules::{Block, Kind};
 // stops at the first number beyond the bound, and the block is not looked at again then: later sums could leave 64 bits.
 // All tasks and kinds are told apart in this one function. So the compiler keeps it apart from the function that holds the block,
 // and its rows share one frame.
+#[tactic(auto, unfolding(factor::specs::Layouts::layout_at, factor::specs::Layouts::layout_by))]
 pub fn run_stage(
     run: Run,
     col: &[i32],

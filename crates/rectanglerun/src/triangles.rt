@@ -11,6 +11,7 @@ use trianglerows::applied::{apply_lower_row, apply_upper_row};
 use trianglerows::undone::{undo_lower_row, undo_upper_row};
 
 // All rows under a lower factor, applied: a row looks at those above it, so the lowest comes first.
+#[tactic(auto, unfolding(factor::specs::Tasks::limit_of, joint::specs::RowsInPlace::element_of, joint::specs::RowsInPlace::row_order))]
 pub fn apply_lower_rows(
     down: bool,
     even: bool,
@@ -35,6 +36,7 @@ pub fn apply_lower_rows(
 }
 
 // The same under an upper factor: a row looks at those below it, so the highest comes first.
+#[tactic(auto, unfolding(factor::specs::Tasks::limit_of, joint::specs::RowsInPlace::element_of, joint::specs::RowsInPlace::row_order))]
 pub fn apply_upper_rows(
     down: bool,
     even: bool,
@@ -59,6 +61,7 @@ pub fn apply_upper_rows(
 }
 
 // All rows under a lower factor, undone: the highest first, since the others look at it as it was.
+#[tactic(auto, unfolding(factor::specs::Tasks::limit_of, joint::specs::RowsInPlace::element_of, joint::specs::RowsInPlace::row_order))]
 pub fn undo_lower_rows(
     down: bool,
     even: bool,
@@ -83,6 +86,7 @@ pub fn undo_lower_rows(
 }
 
 // The same under an upper factor: the lowest first.
+#[tactic(auto, unfolding(factor::specs::Tasks::limit_of, joint::specs::RowsInPlace::element_of, joint::specs::RowsInPlace::row_order))]
 pub fn undo_upper_rows(
     down: bool,
     even: bool,

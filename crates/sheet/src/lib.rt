@@ -25,6 +25,7 @@ pub fn check_pair(col: &[i32], row: &[i32]) -> Answer
 }
 
 // The rest of the faulty sheet, from the fault's place on, as a part of that slice and no copy.
+#[tactic(auto, unfolding(rules::specs::Answers::IsRest))]
 pub fn rest<'a>(col: &'a [i32], row: &'a [i32]) -> &'a [i32]
     ensures { IsRest result col.entry row.entry }
 {

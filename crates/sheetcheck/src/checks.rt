@@ -73,6 +73,7 @@ pub fn check_two_starts(
 }
 
 // The same, then 12. The law is `pair_read`.
+#[tactic(auto, unfolding(rules::specs::Answers::pair_checked))]
 pub fn check_pair_starts(
     col: &[i32],
     row: &[i32],

@@ -37,6 +37,7 @@ fn first_clash(
 }
 
 // The sheets match if the first clash is the count of both; else that is the place of 12.
+#[tactic(auto, unfolding(rules::specs::Answers::matching))]
 pub fn check_match(
     col: &[i32],
     row: &[i32],

@@ -87,6 +87,7 @@ fn end_of_places(sheet: &[i32], n: usize, p: usize) -> usize
 }
 
 // n signs, then m entries.
+#[tactic(auto, unfolding(rules::specs::Sheets::weights))]
 fn end_of_weights(sheet: &[i32], n: usize, m: usize, p: usize) -> usize
     requires { (n ≤ most_cells) × (m ≤ most_cells) }
     ensures { EndsAt sheet.now (weights sheet.now n m p) result }
@@ -121,6 +122,7 @@ fn end_of_single(sheet: &[i32], n: usize, m: usize, p: usize) -> usize
 }
 
 // What follows the kind number, of any order.
+#[tactic(auto, unfolding(rules::specs::Sheets::body))]
 fn end_of_body(sheet: &[i32], n: usize, kind: Kind, p: usize) -> usize
     requires { (1 ≤ n) × (n ≤ most_order) }
     ensures { EndsAt sheet.now (body sheet.now n kind p) result }
@@ -134,6 +136,7 @@ fn end_of_body(sheet: &[i32], n: usize, kind: Kind, p: usize) -> usize
 }
 
 // The same, of order 4: the numbers are so few that the compiler, told how many, writes them out.
+#[tactic(auto, unfolding(rules::specs::Sheets::body, rules::specs::Sheets::triangle))]
 fn end_of_body_of_four(sheet: &[i32], kind: Kind, p: usize) -> usize
     ensures { EndsAt sheet.now (body sheet.now 4 kind p) result }
 {
@@ -146,6 +149,7 @@ fn end_of_body_of_four(sheet: &[i32], kind: Kind, p: usize) -> usize
 }
 
 // The factor whose kind number stands at i.
+#[tactic(auto, unfolding(rules::specs::Sheets::factor))]
 fn end_of_factor(sheet: &[i32], n: usize, i: usize) -> usize
     requires { (1 ≤ n) × (n ≤ most_order) }
     ensures { EndsAt sheet.now (factor sheet.now n i) result }
@@ -181,6 +185,7 @@ fn end_of_factors(sheet: &[i32], starts: &mut [u16; Sheet::FACTORS]) -> usize
 }
 
 // The order and the count.
+#[tactic(auto, unfolding(rules::specs::Sheets::head))]
 fn end_of_head(sheet: &[i32]) -> usize
     ensures { result ≢ 0 → Headed sheet.now }
 {

@@ -34,6 +34,7 @@ pub fn count_at(sheet: &[i32], i: usize) -> usize
 }
 
 // The table of kinds. A number that is none of 1 to 4 is refused before anybody asks.
+#[tactic(auto, unfolding(rules::specs::Sheets::kind_of))]
 fn kind_of(number: usize) -> Kind
     ensures { result ≡ kind_of number }
 {

@@ -55,6 +55,7 @@ fn is_used(sheet: &[i32], start: usize, i: usize) -> bool
 }
 
 // 5 before 6: a place is first one of 0 to n - 1, then a new one.
+#[tactic(auto, unfolding(rules::specs::Sheets::fault_of))]
 fn place_fault(sheet: &[i32], n: usize, start: usize, i: usize) -> u32
     requires { i < length sheet.now }
     ensures { result ≡ fault_of sheet.now (Item.Place n start) i }
@@ -87,6 +88,7 @@ fn row_fault(z: i32, n: usize) -> u32
 }
 
 // The fault of the number at i, by what it stands for.
+#[tactic(auto, unfolding(rules::specs::Sheets::fault_of))]
 pub fn fault_of(sheet: &[i32], what: Item, i: usize) -> u32
     requires { i < length sheet.now }
     ensures { result ≡ fault_of sheet.now what i }

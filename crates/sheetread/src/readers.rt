@@ -10,6 +10,7 @@ use crate::faults::fault_of;
 use rules::{Item, Kind, Mark, Sheet};
 
 // 1, at the sheet's length, if no number stands at i.
+#[tactic(auto, unfolding(rules::specs::Sheets::one))]
 fn read_one(sheet: &[i32], what: Item, i: usize) -> Mark
     ensures { result ≡ one sheet.now what i }
 {
@@ -53,6 +54,7 @@ fn read_many(sheet: &[i32], what: Item, m: usize, start: usize) -> Mark
 }
 
 // n signs, then m entries.
+#[tactic(auto, unfolding(rules::specs::Sheets::weights))]
 fn read_weights(sheet: &[i32], n: usize, m: usize, i: usize) -> Mark
     ensures { result ≡ weights sheet.now n m i }
 {
@@ -76,6 +78,7 @@ fn read_single(sheet: &[i32], n: usize, i: usize) -> Mark
 }
 
 // What follows the kind number.
+#[tactic(auto, unfolding(rules::specs::Sheets::body))]
 fn read_body(sheet: &[i32], n: usize, kind: Kind, i: usize) -> Mark
     requires { (1 ≤ n) × (n ≤ most_order) }
     ensures { result ≡ body sheet.now n kind i }
@@ -88,6 +91,7 @@ fn read_body(sheet: &[i32], n: usize, kind: Kind, i: usize) -> Mark
     }
 }
 
+#[tactic(auto, unfolding(rules::specs::Sheets::factor))]
 fn read_factor(sheet: &[i32], n: usize, i: usize) -> Mark
     requires { (1 ≤ n) × (n ≤ most_order) }
     ensures { result ≡ factor sheet.now n i }
@@ -123,6 +127,7 @@ fn read_factors(sheet: &[i32], starts: &mut [u16; Sheet::FACTORS]) -> Mark
 }
 
 // 9, where numbers are left.
+#[tactic(auto, unfolding(rules::specs::Sheets::closed))]
 fn read_end(sheet: &[i32], i: usize) -> Mark
     ensures { result ≡ closed sheet.now i }
 {
@@ -139,6 +144,7 @@ fn read_end(sheet: &[i32], i: usize) -> Mark
 }
 
 // The order and the count.
+#[tactic(auto, unfolding(rules::specs::Sheets::head))]
 fn read_head(sheet: &[i32]) -> Mark
     ensures { result ≡ head sheet.now }
 {
@@ -150,6 +156,7 @@ fn read_head(sheet: &[i32]) -> Mark
 }
 
 // A whole sheet. If it has no fault, the table has the starts of its factors.
+#[tactic(auto, unfolding(rules::specs::Sheets::reading))]
 pub fn read_sheet(sheet: &[i32], starts: &mut [u16; Sheet::FACTORS]) -> Mark
     requires { length starts.old ≡ most_count }
     ensures { (result ≡ reading sheet.now)

@@ -49,6 +49,7 @@ fn entry_in(row: &[i32], f: Layout, j: usize) -> i32
 
 // That row laid out by columns. With it a row of the block has one sum over all its columns, in place of two whose lengths are
 // known late, and the number in the row's own column is no part of it.
+#[tactic(auto, unfolding(rules::specs::Stages::fill))]
 pub fn lay_entries(row: &[i32], f: Layout) -> [i32; Block::LINE]
     requires { InSheet row.now f × (f.kind ≡ Single) × (f.row < f.order) }
     ensures { result ≡ entries_laid row.now f }
@@ -62,6 +63,7 @@ pub fn lay_entries(row: &[i32], f: Layout) -> [i32; Block::LINE]
 }
 
 // The signs of the columns, laid out: from an array of its own the compiler reads several at a time.
+#[tactic(auto, unfolding(rules::specs::Stages::fill))]
 pub fn lay_signs(row: &[i32], f: Layout) -> [i32; Block::LINE]
     requires { InSheet row.now f }
     ensures { result ≡ signs_laid row.now f }
@@ -75,6 +77,7 @@ pub fn lay_signs(row: &[i32], f: Layout) -> [i32; Block::LINE]
 }
 
 // The first n entries of w, each times its number of the block's row that starts at place k.
+#[tactic(auto, unfolding(whole::specs::Stated::sum))]
 fn narrow_sum(w: &[i32; Block::LINE], x: &[i32; Block::CELLS], k: usize, n: usize) -> i64
     requires { Narrow w.now x.now k n }
     ensures { result ≡ narrow_sum w.now x.now k n }
@@ -111,6 +114,7 @@ fn sign_in(d: i32, g: &[i32; Block::LINE], j: usize) -> i32
 }
 
 // What the element in column q of that row becomes, q the row of the row sheet's factor.
+#[tactic(auto, unfolding(crate::specs::SingleRows::applied_beside))]
 fn applied_beside(
     down: bool,
     even: bool,
@@ -134,6 +138,7 @@ fn applied_beside(
 }
 
 // What it was, where it is y now and the others of the row are recovered.
+#[tactic(auto, unfolding(crate::specs::SingleRows::undone_beside))]
 fn undone_beside(
     down: bool,
     even: bool,
@@ -279,6 +284,7 @@ fn crossing_total(row: &[i32], f: Layout, j: usize, total: i64, v: &[i64; Block:
 }
 
 // The elements of the row with entries, which starts at place k and has the sign d and the sums v, applied.
+#[tactic(auto, unfolding(factor::specs::InPlace::in_place))]
 fn apply_elements(
     down: bool,
     even: bool,
@@ -333,6 +339,7 @@ pub fn apply_crossing(
 
 // The same undone, in the order of the row sheet's factor. A number goes into the row's sums when it is recovered: nothing looks
 // at it before.
+#[tactic(auto, unfolding(factor::specs::InPlace::in_place, joint::specs::Sums::rest_sums))]
 pub fn undo_crossing(
     down: bool,
     even: bool,

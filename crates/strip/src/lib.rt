@@ -11,6 +11,7 @@ use striprun::blocks::Shape;
 use striprun::runs::strip_by;
 
 // Each block of x through the sheet's factors, into its part of y.
+#[tactic(auto, unfolding(striprun::specs::Plans::TakesBlocks, striprun::specs::Plans::plan_of, factor::specs::Tasks::call_by))]
 pub fn line_forward(rule: u32, s: &[i32], x: &[i32], y: &mut [i32], bytes: &mut [u8]) -> Answer
     ensures { GivesStrip result y.new bytes.new
         (ruled rule forward_strip (line s.now) x.now y.old bytes.old) }
@@ -19,6 +20,7 @@ pub fn line_forward(rule: u32, s: &[i32], x: &[i32], y: &mut [i32], bytes: &mut 
 }
 
 // Each block of x back through the sheet's factors.
+#[tactic(auto, unfolding(striprun::specs::Plans::TakesBlocks, striprun::specs::Plans::plan_of, factor::specs::Tasks::call_by))]
 pub fn line_inverse(rule: u32, s: &[i32], x: &[i32], y: &mut [i32], bytes: &mut [u8]) -> Answer
     ensures { GivesStrip result y.new bytes.new
         (ruled rule inverse_strip (line s.now) x.now y.old bytes.old) }
@@ -27,6 +29,7 @@ pub fn line_inverse(rule: u32, s: &[i32], x: &[i32], y: &mut [i32], bytes: &mut 
 }
 
 // Each rectangle of x through the pairs of factors.
+#[tactic(auto, unfolding(striprun::specs::Plans::TakesBlocks, striprun::specs::Plans::plan_of, factor::specs::Tasks::call_by))]
 pub fn joint_forward(
     rule: u32,
     col: &[i32],
@@ -43,6 +46,7 @@ pub fn joint_forward(
 }
 
 // Each rectangle of x back through the pairs of factors.
+#[tactic(auto, unfolding(striprun::specs::Plans::TakesBlocks, striprun::specs::Plans::plan_of, factor::specs::Tasks::call_by))]
 pub fn joint_inverse(
     rule: u32,
     col: &[i32],

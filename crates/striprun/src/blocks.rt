@@ -17,6 +17,7 @@ pub enum Shape {
 }
 
 // 1 to 9, and 12 for a pair. If there is none, the tables have where the factors start.
+#[tactic(auto, unfolding(crate::specs::Plans::plan_of, crate::specs::Plans::StartsOf, rules::specs::Calls::line, rules::specs::Calls::joint))]
 pub fn check_sheets(
     shape: Shape,
     col: &[i32],
@@ -36,6 +37,7 @@ pub fn check_sheets(
 }
 
 // How many numbers a block has.
+#[tactic(auto, unfolding(crate::specs::Plans::plan_of, rules::specs::Calls::line, rules::specs::Calls::joint))]
 pub fn size_of(shape: Shape, col: &[i32], row: &[i32]) -> usize
     requires { (plan_of shape col.now row.now).sheets.number ≡ 0 }
     ensures { result ≡ (plan_of shape col.now row.now).size }
@@ -47,6 +49,7 @@ pub fn size_of(shape: Shape, col: &[i32], row: &[i32]) -> usize
 }
 
 // The byte of a block: 0 if it is accepted.
+#[tactic(auto, unfolding(crate::specs::Plans::byte_of))]
 fn byte_of(ok: bool) -> u8
     ensures { result ≡ byte_of ok }
 {
@@ -57,6 +60,7 @@ fn byte_of(ok: bool) -> u8
 }
 
 // The single call: its output into y, and the byte. A byte takes the number alone, so no element is asked for.
+#[tactic(auto, unfolding(crate::specs::Plans::plan_of, crate::specs::Plans::StartsOf, rules::specs::Calls::line, rules::specs::Calls::joint))]
 pub fn run_block(
     shape: Shape,
     run: Run,

@@ -11,6 +11,7 @@ use factor::run::{Run, Task, check_rule, run_by};
 use rules::{Answer, Sheet};
 
 // 10: the input is no whole number of blocks of n; then the output, then the bytes.
+#[tactic(auto, unfolding(crate::specs::Lengths::strip_lengths))]
 fn check_strip(n: usize, x: usize, y: usize, bytes: usize) -> Answer
     requires { 0 < n }
     ensures { result ≡ strip_lengths n x y bytes }

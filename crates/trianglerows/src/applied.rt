@@ -39,6 +39,7 @@ fn upper_total(row: &[i32], f: Layout, n: usize, j: usize, p: usize, v: &[i64; B
 }
 
 // The elements from .. to of the row that starts at place k, under a lower factor.
+#[tactic(auto, unfolding(factor::specs::InPlace::in_place))]
 fn apply_lower(
     down: bool,
     even: bool,
@@ -73,6 +74,7 @@ fn apply_lower(
 }
 
 // The elements from .. to of the row that starts at place k, under an upper factor.
+#[tactic(auto, unfolding(factor::specs::InPlace::in_place))]
 fn apply_upper(
     down: bool,
     even: bool,

@@ -23,6 +23,7 @@ use joint::sums::{wide_sum, with_sum};
 use rules::Block;
 
 // The own term, and m entries times the first m sums, of which last is the last.
+#[tactic(auto, unfolding(whole::specs::Stated::sum))]
 fn sum_ending(a: &[i32], p: usize, v: &[i64; Block::LINE], m: usize, last: i64, own: i64) -> i64
     requires { Wide a.now p v.now 0 m × Within most_own own × (last ≡ recent_of v.now (λ t. t) m) }
     ensures { result ≡ own +ℤ sum m (λ j. at a.now (p + j) *ℤ at v.now (0 + j)) }
@@ -34,6 +35,7 @@ fn sum_ending(a: &[i32], p: usize, v: &[i64; Block::LINE], m: usize, last: i64, 
 }
 
 // The own term, and m entries times the sums from column k on, of which first is the first.
+#[tactic(auto, unfolding(whole::specs::Stated::sum))]
 fn sum_starting(
     a: &[i32],
     p: usize,

@@ -21,6 +21,7 @@ use sheetcheck::checks::{check_starts, check_two_starts};
 use sheetread::factors::count_at;
 
 // 16, then 1 to 9, then 10 for the input and for the output. If there is none, the tables have where the factors start.
+#[tactic(auto, unfolding(rules::specs::Calls::two_pass))]
 fn check_two(
     task: Task,
     rule: u32,
@@ -48,6 +49,7 @@ fn check_two(
 }
 
 // The same, the sheet whose pass comes first given first.
+#[tactic(auto, unfolding(crate::specs::Plans::two_by))]
 fn check_in_order(
     columns: bool,
     task: Task,
@@ -71,6 +73,7 @@ fn check_in_order(
 }
 
 // The checks, then the run by that rule. Rows are undone first.
+#[tactic(auto, unfolding(factor::specs::Tasks::end_answer))]
 fn call_two(
     columns: bool,
     task: Task,
@@ -119,6 +122,7 @@ fn call_two(
 }
 
 // Forward: x down the columns, then along the rows, into y.
+#[tactic(auto, unfolding(passrun::specs::BlockRuns::other, factor::specs::Tasks::is_inverse, factor::specs::CallAnswers::NoneLent, factor::specs::Tasks::call_by, crate::specs::Plans::two_by))]
 pub fn forward(rule: u32, col: &[i32], row: &[i32], x: &[i32], y: &mut [i32]) -> Answer
     ensures { Gives result y.new
         (ruled rule forward_call (two_pass col.now row.now) x.now y.old) }
@@ -127,6 +131,7 @@ pub fn forward(rule: u32, col: &[i32], row: &[i32], x: &[i32], y: &mut [i32]) ->
 }
 
 // Inverse: x back along the rows, then up the columns, into y.
+#[tactic(auto, unfolding(passrun::specs::BlockRuns::other, factor::specs::Tasks::is_inverse, factor::specs::CallAnswers::NoneLent, factor::specs::Tasks::call_by, crate::specs::Plans::two_by))]
 pub fn inverse(rule: u32, col: &[i32], row: &[i32], x: &[i32], y: &mut [i32]) -> Answer
     ensures { Gives result y.new
         (ruled rule inverse_call (two_pass col.now row.now) x.now y.old) }
@@ -135,6 +140,7 @@ pub fn inverse(rule: u32, col: &[i32], row: &[i32], x: &[i32], y: &mut [i32]) ->
 }
 
 // The allowances of the forward run's coefficients, into y. They start at 0: no numbers are lent.
+#[tactic(auto, unfolding(passrun::specs::BlockRuns::other, factor::specs::Tasks::is_inverse, factor::specs::CallAnswers::NoneLent, factor::specs::Tasks::call_by, crate::specs::Plans::two_by))]
 pub fn allowance(rule: u32, col: &[i32], row: &[i32], y: &mut [i32]) -> Answer
     ensures { Gives result y.new
         (ruled rule allowance_call (two_pass col.now row.now) y.old) }
@@ -157,6 +163,7 @@ fn check_order(other: u32) -> Answer
 
 // 16, then 1 to 9, then 2 for the other order, then 10 for the input and for the output: the same for columns and for rows. If
 // there is none, the table has where the factors start.
+#[tactic(auto, unfolding(rules::specs::Calls::column_pass))]
 fn check_one(
     task: Task,
     rule: u32,
@@ -186,6 +193,7 @@ fn check_one(
 }
 
 // The checks, then the pass by that rule, down the columns or along the rows.
+#[tactic(auto, unfolding(factor::specs::Tasks::end_answer))]
 fn call_one(
     columns: bool,
     task: Task,
@@ -221,6 +229,7 @@ fn call_one(
 }
 
 // The column pass alone, of `other` columns.
+#[tactic(auto, unfolding(factor::specs::CallAnswers::NoneLent, factor::specs::Tasks::call_by, crate::specs::Plans::one_by))]
 pub fn column_forward(rule: u32, sheet: &[i32], other: u32, x: &[i32], y: &mut [i32]) -> Answer
     ensures { Gives result y.new
         (ruled rule forward_call (column_pass sheet.now other) x.now y.old) }
@@ -229,6 +238,7 @@ pub fn column_forward(rule: u32, sheet: &[i32], other: u32, x: &[i32], y: &mut [
 }
 
 // The same back.
+#[tactic(auto, unfolding(factor::specs::CallAnswers::NoneLent, factor::specs::Tasks::call_by, crate::specs::Plans::one_by))]
 pub fn column_inverse(rule: u32, sheet: &[i32], other: u32, x: &[i32], y: &mut [i32]) -> Answer
     ensures { Gives result y.new
         (ruled rule inverse_call (column_pass sheet.now other) x.now y.old) }
@@ -237,6 +247,7 @@ pub fn column_inverse(rule: u32, sheet: &[i32], other: u32, x: &[i32], y: &mut [
 }
 
 // The row pass alone, of `other` rows.
+#[tactic(auto, unfolding(factor::specs::CallAnswers::NoneLent, factor::specs::Tasks::call_by, crate::specs::Plans::one_by))]
 pub fn row_forward(rule: u32, sheet: &[i32], other: u32, x: &[i32], y: &mut [i32]) -> Answer
     ensures { Gives result y.new
         (ruled rule forward_call (row_pass sheet.now other) x.now y.old) }
@@ -245,6 +256,7 @@ pub fn row_forward(rule: u32, sheet: &[i32], other: u32, x: &[i32], y: &mut [i32
 }
 
 // The same back.
+#[tactic(auto, unfolding(factor::specs::CallAnswers::NoneLent, factor::specs::Tasks::call_by, crate::specs::Plans::one_by))]
 pub fn row_inverse(rule: u32, sheet: &[i32], other: u32, x: &[i32], y: &mut [i32]) -> Answer
     ensures { Gives result y.new
         (ruled rule inverse_call (row_pass sheet.now other) x.now y.old) }
