@@ -1,0 +1,53 @@
+-- The entries stand on one side of the diagonal (`left_along`), and their sum is small.
+use Rattle.std.proofs.Common.{◌≡◌, sym, ◌∙◌, arith, w64, to_z, of_z}
+use Rattle.factor.specs.Layouts.{row_of, along}
+use Rattle.factor.specs.SumBounds.{Bounded, bounded-le, left-terms, part-is}
+use Rattle.linerun.specs.LineBounds.{most_sum, row-of-16, row_small}
+use Rattle.linerun.specs.RowsByKind.{lower-left, lower-right, left_along}
+use Rattle.linerun.specs.Steps.{rounded_sum}
+use Rattle.rules.specs.Numbers.{most_allowance, at}
+use Rattle.whole.specs.Diff.{Within}
+use Rattle.whole.specs.Machine.{back, within-le}
+use Rattle.linerun.proofs.kinds.left_sum.Goals as goal
+use Rattle.linerun.proofs.kinds.left_sum.Goals.{After-products_sum, Start}
+
+bounded : (s : Start) → Bounded most_allowance s.args.x.now
+bounded s = bounded-le (omega arith) s.requires.0.2
+
+pub products_sum-requires : goal.products_sum-requires
+products_sum-requires c =
+    let c = (goal.at.products_sum-requires c).After-products_sum-arg-2-1 in
+    let s = c.before.before in
+    let e = lower-left s.args.f s.args.m s.requires.1 in
+    rw (part-is s.args.p s.args.sheet.now, s.requires.2)
+    (rw e at (left-terms (row-of-16 s.requires.0.0 s.args.m s.requires.0.1) (bounded s) c.products_sum-arg-2-1.given.0))
+
+value :
+    (c : After-products_sum) →
+    let a = c.before.before.before.args in
+    to_z w64 (of_z w64 c.products_sum.result) ≡ along (at a.sheet.now) (row_of a.f a.m) a.m a.x.now
+value c =
+    let s = c.before.before.before in
+    let h = row-of-16 s.requires.0.0 s.args.m s.requires.0.1 in
+    back w64 _ c.products_sum.type_inv
+    ∙ c.products_sum.ensures
+    ∙ rw (part-is s.args.p s.args.sheet.now, s.requires.2)
+    (left_along h (bounded s) c.before.products_sum-arg-2-1.given.0 (sym (lower-left s.args.f s.args.m s.requires.1))
+    (lower-right s.args.f s.args.m s.requires.1))
+
+small :
+    (s : Start) →
+    let a = s.args in Within most_sum (along (at a.sheet.now) (row_of a.f a.m) a.m a.x.now)
+small s = row_small s.requires.0.0 s.args.m s.requires.0.1 (bounded s)
+
+pub round_line-requires : goal.round_line-requires
+round_line-requires c =
+    let c = (goal.at.round_line-requires c).After-products_sum in
+    let h = small c.before.before.before in
+    rw (value c) (within-le (omega arith) h)
+
+pub returns : goal.returns
+unfolding rounded_sum
+returns c =
+    let c = (goal.at.returns c).After-round_line in
+    back w64 _ c.round_line.type_inv ∙ c.round_line.ensures.0 ∙ rw (value c.before)

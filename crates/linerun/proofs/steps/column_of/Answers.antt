@@ -1,0 +1,15 @@
+-- The two runs of entries, told apart by the test.
+use Rattle.std.proofs.Common.{sym}
+use Rattle.linerun.specs.RowColumns.{column-left, column-right}
+use Rattle.linerun.proofs.steps.column_of.Goals as goal
+
+-- The two runs of entries, told apart by the test.
+pub returns-then-j-left : goal.returns-then-j-left
+returns-then-j-left c =
+    let c = (goal.at.returns-then-j-left c).Then-j-left in
+    sym (column-left c.before.args.r c.before.args.m c.before.args.j c.if-j-left.true)
+
+pub returns-then-j-left : goal.returns
+returns-then-j-left c =
+    let c = (goal.at.returns c).Else-j-left in
+    sym (column-right c.before.args.r c.before.args.m c.before.args.j c.if-j-left.false)

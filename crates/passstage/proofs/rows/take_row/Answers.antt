@@ -1,0 +1,83 @@
+-- A row without entries is turned (`row-turned`), another is made of its sums (`row-summed`).
+use Rattle.std.proofs.Common.{◌≡◌, ◌+◌, ◌*◌, arith, w32, to_z, of_z}
+use Rattle.factor.specs.Layouts.{row_of}
+use Rattle.factor.specs.Rounding.{rule_by}
+use Rattle.passstage.specs.Parts.{whole, rest, Raised, zeros, parts_sum, together, together-wide}
+use Rattle.passstage.specs.RowLaws.{left-parting, right-parting, sums-small, sums-along, row-given, row-turned, row-summed}
+use Rattle.rules.specs.Numbers.{most_order, at}
+use Rattle.rules.specs.declared.Rule.{Rule}
+use Rattle.whole.specs.Machine.{reads, sign-within}
+use Rattle.passstage.proofs.rows.take_row.Goals as goal
+use Rattle.passstage.proofs.rows.take_row.Goals.{After-add_columns, After-add_columns-2, Start}
+
+-- A row without entries is turned (`row-turned`), another is made of its sums (`row-summed`).
+-- the sign of the row, as it was read
+sign : (s : Start) → let z = at s.args.sheet.now (s.args.f.signs + s.args.m) in to_z w32 (of_z w32 z) ≡ z
+sign s = reads w32 (sign-within (s.requires.0.sign s.args.m s.requires.1)) tt
+
+abbrev K : Start → Rule
+K s = rule_by s.args.down s.args.even
+
+pub returns-then-left-right-eq0 : goal.returns-then-left-right-eq0
+returns-then-left-right-eq0 c =
+    let c = (goal.at.returns-then-left-right-eq0 c).After-turn_row in
+    let t = c.before.before in
+    let s = t.before.before.before in
+    row-turned s.args.back (K s) s.requires.0 s.args.m s.requires.1 s.requires.3 s.args.w s.requires.2 s.requires.4
+    (rw t.before.row_of-r.ensures at t.if-left-right-eq0.true) (rw (sign s) at c.turn_row.ensures)
+
+pub add_columns-requires : goal.add_columns-requires
+add_columns-requires c =
+    let c = (goal.at.add_columns-requires c).After-v-1 in
+    let e = c.before.before in
+    let s = e.before.before.before in
+    rw e.before.row_of-r.ensures (left-parting s.requires.0 s.args.m s.requires.1 s.requires.3)
+
+-- the sums of the entries on the left
+abbrev start : After-add_columns → Start
+start c = c.before.before.before.before.before.before
+
+left : (c : After-add_columns) → let s = start c in let r = row_of s.args.f s.args.m in
+    Raised (together s.args.w) (parts_sum whole s.args.sheet.now r.at r.left s.args.x.now 0)
+    (parts_sum rest s.args.sheet.now r.at r.left s.args.x.now 0) zeros
+    c.add_columns.new.1.1.1.1.1.1.0
+left c = rw c.before.before.before.before.row_of-r.ensures at c.add_columns.ensures
+
+pub add_columns-requires-2 : goal.add_columns-requires-2
+add_columns-requires-2 c =
+    let c = (goal.at.add_columns-requires-2 c).After-v-2-1 in
+    let a = c.before.before in
+    let s = start a in
+    rw a.before.before.before.before.row_of-r.ensures
+    (right-parting s.pre.0 s.args.m s.pre.1 s.pre.3 (left a))
+
+-- and on the right
+right : (c : After-add_columns-2) → let a = c.before.before.before in let s = start a in
+    let r = row_of s.args.f s.args.m in
+    Raised (together s.args.w)
+    (parts_sum whole s.args.sheet.now (r.at + r.left) r.right s.args.x.now ((s.args.m + 1) * most_order))
+    (parts_sum rest s.args.sheet.now (r.at + r.left) r.right s.args.x.now ((s.args.m + 1) * most_order))
+    a.add_columns.new.1.1.1.1.1.1.0 c.add_columns-2.new.1.1.1.1.1.1.0
+right c = rw c.before.before.before.before.before.before.before.row_of-r.ensures at c.add_columns-2.ensures
+
+pub make_numbers-requires : goal.make_numbers-requires
+make_numbers-requires c =
+    let c = (goal.at.make_numbers-requires c).After-make_numbers-arg-1 in
+    let b = c.before.before in
+    let a = b.before.before.before in
+    let s = start a in (
+      rw (sign s) (row-given s.pre.0 s.args.m s.pre.1 s.pre.3 s.args.w s.pre.2 s.pre.4),
+      sums-small s.pre.0 s.args.m s.pre.1 s.pre.3 (left a) (right b),
+    )
+
+pub returns-then-left-right-eq0 : goal.returns
+returns-then-left-right-eq0 c =
+    let c = (goal.at.returns c).After-make_numbers in
+    let b = c.before.before.before in
+    let a = b.before.before.before in
+    let s = start a in
+    let w = together-wide s.args.w s.pre.2 in
+    row-summed s.args.back (K s) s.pre.0 s.args.m s.pre.1 s.pre.3 s.args.w s.pre.2
+    b.add_columns-2.new.1.1.1.1.1.1.0
+    (λ i l. sums-along s.pre.0 s.args.m s.pre.1 s.pre.3 (left a) (right b) i (omega (arith, w.0)) w.1)
+    (rw (sign s) at c.make_numbers.ensures)

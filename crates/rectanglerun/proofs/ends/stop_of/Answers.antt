@@ -1,0 +1,9 @@
+-- The two ends are `stops-before` and `stops-after`.
+use Rattle.laws.specs.Accepted.{count-counts}
+use Rattle.rectanglerun.proofs.ends.stop_of.Goals as goal
+
+-- The two ends are `stops-before` and `stops-after`.
+pub count_at-many-requires : goal.count_at-many-requires
+count_at-many-requires c =
+    let c = (goal.at.count_at-many-requires c).Start in
+    count-counts c.requires.0

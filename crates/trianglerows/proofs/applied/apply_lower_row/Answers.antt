@@ -1,0 +1,30 @@
+-- The sums are the row's, so its elements are the row (`asks-run`, `run_row`).
+use Rattle.std.proofs.Common.{◌≡◌, refl, ◌∙◌, w32, to_z, of_z}
+use Rattle.factor.specs.Rounding.{rule_by}
+use Rattle.joint.specs.Elements.{sign_at}
+use Rattle.joint.specs.Triangles.{asks-run, run_row}
+use Rattle.whole.specs.Machine.{back}
+use Rattle.trianglerows.proofs.applied.apply_lower_row.Goals as goal
+use Rattle.trianglerows.proofs.applied.apply_lower_row.Goals.{After-sign_at-d}
+
+sign : (c : After-sign_at-d) →
+    let s = c.before.before in
+    to_z w32 (of_z w32 c.sign_at-d.result) ≡ sign_at s.args.col.now s.args.fa s.args.i
+sign c = back w32 _ c.sign_at-d.type_inv ∙ c.sign_at-d.ensures
+
+pub apply_lower_elements-requires : goal.apply_lower_elements-requires
+apply_lower_elements-requires c =
+    let c = (goal.at.apply_lower_elements-requires c).After-apply_lower_elements-arg-1 in
+    let a = c.before.before in
+    let d = a.before.before.before in
+    let s = d.before.before in
+    (asks-run s.requires.0 refl (sign d) a.lower_sums.ensures, s.requires.1)
+
+pub returns : goal.returns
+returns c =
+    let c = (goal.at.returns c).After-apply_lower_elements in
+    let a = c.before.before.before in
+    let d = a.before.before.before in
+    let s = d.before.before in
+    run_row s.requires.0 refl (sign d) a.lower_sums.ensures (rule_by s.args.down s.args.even)
+    c.apply_lower_elements.ensures

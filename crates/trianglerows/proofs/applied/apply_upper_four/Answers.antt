@@ -1,0 +1,62 @@
+-- The sums are the row's, so the one run of four elements is the row (`asks-run`, `run_row`).
+use Rattle.std.proofs.Common.{true, false, ◌≡◌, sym, ◌∙◌, arith, w32, to_z, of_z}
+use Rattle.factor.specs.Rounding.{rule_by}
+use Rattle.joint.specs.Elements.{sign_at}
+use Rattle.joint.specs.RowsInPlace.{run-all}
+use Rattle.joint.specs.Triangles.{asks-run, run_row}
+use Rattle.whole.specs.Machine.{back}
+use Rattle.trianglerows.proofs.applied.apply_upper_four.Goals as goal
+use Rattle.trianglerows.proofs.applied.apply_upper_four.Goals.{After-sign_at-d}
+
+sign : (c : After-sign_at-d) →
+    let s = c.before in
+    to_z w32 (of_z w32 c.sign_at-d.result) ≡ sign_at s.args.col.now s.args.fa s.args.i
+sign c = back w32 _ c.sign_at-d.type_inv ∙ c.sign_at-d.ensures
+
+pub apply_upper-requires : goal.apply_upper-requires
+apply_upper-requires c =
+    let c = (goal.at.apply_upper-requires c).After-apply_upper-arg-1 in
+    let a = c.before.before.before in
+    let d = a.before.before.before in
+    let s = d.before in (
+      asks-run s.requires.0 (sym s.requires.2) (sign d) a.upper_sums.ensures,
+      s.requires.1,
+      sym s.requires.2,
+      omega arith,
+      omega (arith, s.requires.2),
+    )
+
+pub returns-then-even : goal.returns-then-even
+returns-then-even c =
+    let c = (goal.at.returns-then-even c).After-apply_upper in
+    let t = c.before.before.before in
+    let a = t.before in
+    let d = a.before.before.before in
+    let s = d.before in
+    rw t.if-even.true
+    (run_row s.requires.0 (sym s.requires.2) (sign d) a.upper_sums.ensures (rule_by s.args.down true)
+    (run-all _ 4 s.requires.2 c.apply_upper.ensures))
+
+pub apply_upper-requires-2 : goal.apply_upper-requires-2
+apply_upper-requires-2 c =
+    let c = (goal.at.apply_upper-requires-2 c).After-apply_upper-arg-2-1 in
+    let a = c.before.before.before in
+    let d = a.before.before.before in
+    let s = d.before in (
+      asks-run s.requires.0 (sym s.requires.2) (sign d) a.upper_sums.ensures,
+      s.requires.1,
+      sym s.requires.2,
+      omega arith,
+      omega (arith, s.requires.2),
+    )
+
+pub returns-then-even : goal.returns
+returns-then-even c =
+    let c = (goal.at.returns c).After-apply_upper-2 in
+    let t = c.before.before.before in
+    let a = t.before in
+    let d = a.before.before.before in
+    let s = d.before in
+    rw t.if-even.false
+    (run_row s.requires.0 (sym s.requires.2) (sign d) a.upper_sums.ensures (rule_by s.args.down false)
+    (run-all _ 4 s.requires.2 c.apply_upper-2.ensures))
