@@ -2,6 +2,7 @@
 use Rattle.std.proofs.Common.{arith}
 use Rattle.factor.specs.SumBounds.{above-triangle}
 use Rattle.factor.proofs.before_upper.Goals as goal
+use Rattle.factor.proofs.before_upper.Goals.{After-before_lower}
 
 pub overflow_sub-result-2 : goal.overflow_sub-result-2
 overflow_sub-result-2 c =

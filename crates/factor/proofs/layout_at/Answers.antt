@@ -6,6 +6,7 @@ use Rattle.rules.specs.Factors.{signs_at}
 use Rattle.rules.specs.declared.Kind.{Kind}
 use Rattle.rules.specs.declared.Kind.TheVariants.{Permutation, Lower, Upper, Single}
 use Rattle.factor.proofs.layout_at.Goals as goal
+use Rattle.factor.proofs.layout_at.Goals.{After-layout_with_row, After-layout_without_row, After-layout_without_row-in-Lower, After-layout_without_row-in-Upper}
 
 enum_told : tie.Need-enum-told
 enum_told c = search rules

@@ -12,7 +12,7 @@ use Rattle.rules.specs.declared.Item.TheVariants.{Row}
 use Rattle.rules.specs.declared.Kind.TheVariants.{Lower, Upper, Single}
 use Rattle.rules.specs.declared.Rule.{Rule}
 use Rattle.four.proofs.applied_stage.Goals as goal
-use Rattle.four.proofs.applied_stage.Goals.{In-Single, Start}
+use Rattle.four.proofs.applied_stage.Goals.{After-applied, After-count_at, After-lower, After-single, After-upper, In-Lower, In-Single, In-Upper, Start}
 
 -- Each arm is the stage of its kind.
 -- the rule of the two tests

@@ -5,7 +5,7 @@ use Rattle.laws.specs.Accepted.{Accepted, accepted-read, order-counts}
 use Rattle.rules.specs.Calls.{line}
 use Rattle.rules.specs.declared.Answer.{Answer}
 use Rattle.line.proofs.check_call.Goals as goal
-use Rattle.line.proofs.check_call.Goals.{After-check_lengths, After-check_starts-c, Else-c-ne0}
+use Rattle.line.proofs.check_call.Goals.{After-check_lengths, After-check_starts-c, Else-c-ne0, Then-a-ne0, Then-c-ne0}
 
 pub returns-then-a-ne0 : goal.returns-then-a-ne0
 returns-then-a-ne0 c =
@@ -48,8 +48,8 @@ told : (c : After-check_lengths) →
 unfolding line
 told c = c.check_lengths.ensures ∙ rw c.before.count_at.ensures
 
-pub returns-then-a-ne0 : goal.returns
-returns-then-a-ne0 c =
+pub returns : goal.returns
+returns c =
     let c = (goal.at.returns c).After-check_lengths in
     let f = c.before.before in
     let h = f.before.before in

@@ -3,6 +3,7 @@ use Rattle.std.proofs.Common.{arith}
 use Rattle.factor.specs.Tasks.{is_inverse}
 use Rattle.pairmoves.specs.Moves.{next-line}
 use Rattle.pairmoves.proofs.move_lines.Goals as goal
+use Rattle.pairmoves.proofs.move_lines.Goals.{After-x-1}
 
 pub loop-l-preserved : goal.loop-l-preserved
 loop-l-preserved c =

@@ -3,6 +3,7 @@ use Rattle.std.proofs.Common.{arith}
 use Rattle.factor.specs.Tasks.{is_inverse}
 use Rattle.pairmoves.specs.Moves.{source_of, few, rows, columns, pair-moved}
 use Rattle.pairmoves.proofs.move_pair.Goals as goal
+use Rattle.pairmoves.proofs.move_pair.Goals.{After-move_lines-2, After-move_lines-arg-1, After-move_lines-arg-2-1}
 
 -- The rows and then the columns take every number where the pair of permutations says (`pair-moved`).
 pub move_lines-requires : goal.move_lines-requires

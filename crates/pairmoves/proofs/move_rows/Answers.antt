@@ -2,6 +2,7 @@
 use Rattle.std.proofs.Common.{arith}
 use Rattle.pairmoves.specs.MovedAside.{next_row}
 use Rattle.pairmoves.proofs.move_rows.Goals as goal
+use Rattle.pairmoves.proofs.move_rows.Goals.{After-x-1}
 
 pub loop-i-preserved : goal.loop-i-preserved
 loop-i-preserved c =

@@ -3,6 +3,7 @@ use Rattle.std.proofs.Common.{List, ◌∷◌, sym, ap, ℕ}
 use Rattle.printing.specs.Digits.{decimal-count}
 use Rattle.printing.specs.Writing.{wrote_then, wrote_as}
 use Rattle.printing.proofs.put_count.Goals as goal
+use Rattle.printing.proofs.put_count.Goals.{After-slice_known-3-1}
 
 pub returns : goal.returns
 returns c =

@@ -4,6 +4,7 @@ use lib.Signed.{lt_z}
 use Rattle.printing.specs.Digits.{decimal-below, decimal-above}
 use Rattle.printing.specs.Writing.{wrote_then, wrote_as}
 use Rattle.printing.proofs.put_decimal.Goals as goal
+use Rattle.printing.proofs.put_decimal.Goals.{After-slice_known-2-1, After-slice_known-then-z-lt0-2-1}
 
 pub returns-then-z-lt0 : goal.returns-then-z-lt0
 returns-then-z-lt0 c =
@@ -18,8 +19,8 @@ returns-then-z-lt0 c =
     let e = rw (to_z-of_z f) at n.size-n.ensures in
     wrote_as (wrote_then p.put-j.ensures (rw e at d.put_digits.ensures)) (sym (decimal-below z below))
 
-pub returns-then-z-lt0 : goal.returns
-returns-then-z-lt0 c =
+pub returns : goal.returns
+returns c =
     let c = (goal.at.returns c).After-slice_known-2-1 in
     let d = c.before.before in
     let n = d.before.before.before in

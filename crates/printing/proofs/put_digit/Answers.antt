@@ -3,6 +3,7 @@ use Rattle.std.proofs.Common.{sym, arith}
 use Rattle.printing.specs.Digits.{digit-none, digit-one}
 use Rattle.printing.specs.Writing.{wrote_none, wrote_as}
 use Rattle.printing.proofs.put_digit.Goals as goal
+use Rattle.printing.proofs.put_digit.Goals.{After-slice_known-2-1, Then-p-reach}
 
 pub returns-then-p-reach : goal.returns-then-p-reach
 returns-then-p-reach c =
@@ -12,8 +13,8 @@ returns-then-p-reach c =
     wrote_as (wrote_none s.args.out-1.now s.args.i s.requires.0)
     (sym (digit-none s.args.p s.args.n (omega (arith, r.reach.ensures))))
 
-pub returns-then-p-reach : goal.returns
-returns-then-p-reach c =
+pub returns : goal.returns
+returns c =
     let c = (goal.at.returns c).After-slice_known-2-1 in
     let p = c.before.before in
     let r = p.before.before.before in

@@ -4,6 +4,7 @@ use Rattle.printing.specs.Digits.{digits-none, digits-next}
 use Rattle.printing.specs.Program.{power, digit_at, digits}
 use Rattle.printing.specs.Writing.{wrote_none, wrote_then, wrote_as}
 use Rattle.printing.proofs.put_digits.Goals as goal
+use Rattle.printing.proofs.put_digits.Goals.{After-slice_known-1, After-slice_known-in-loop-t-1}
 
 pub loop-t-init : goal.loop-t-init
 loop-t-init c =

@@ -2,6 +2,7 @@
 use Rattle.printing.specs.Digits.{line-is}
 use Rattle.printing.specs.Writing.{wrote_then, wrote_as}
 use Rattle.printing.proofs.put_line.Goals as goal
+use Rattle.printing.proofs.put_line.Goals.{After-slice_known-4-1}
 
 pub returns : goal.returns
 returns c =

@@ -2,6 +2,7 @@
 use Rattle.std.proofs.Common.{to_z-of_z}
 use Rattle.printing.specs.Writing.{wrote_then}
 use Rattle.printing.proofs.put_number.Goals as goal
+use Rattle.printing.proofs.put_number.Goals.{After-slice_known-3-1}
 
 pub returns : goal.returns
 returns c =

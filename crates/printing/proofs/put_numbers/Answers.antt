@@ -3,6 +3,7 @@ use Rattle.std.proofs.Common.{sym, arith, w32, to_z-of_z}
 use Rattle.printing.specs.Digits.{spaced-none, spaced-next}
 use Rattle.printing.specs.Writing.{wrote_none, wrote_then, wrote_as}
 use Rattle.printing.proofs.put_numbers.Goals as goal
+use Rattle.printing.proofs.put_numbers.Goals.{After-slice_known-1, After-slice_known-in-loop-k-1}
 
 pub loop-k-init : goal.loop-k-init
 loop-k-init c =

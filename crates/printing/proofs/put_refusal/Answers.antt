@@ -2,6 +2,7 @@
 use Rattle.printing.specs.Digits.{refusal_is}
 use Rattle.printing.specs.Writing.{wrote_then, wrote_as}
 use Rattle.printing.proofs.put_refusal.Goals as goal
+use Rattle.printing.proofs.put_refusal.Goals.{After-slice_known-6-1}
 
 pub returns : goal.returns
 returns c =

@@ -3,6 +3,7 @@ use Rattle.std.proofs.Common.{sym, arith}
 use Rattle.printing.specs.Digits.{word_next}
 use Rattle.printing.specs.Writing.{wrote_then, wrote_as}
 use Rattle.printing.proofs.put_word.Goals as goal
+use Rattle.printing.proofs.put_word.Goals.{After-slice_known-in-loop-k-1}
 
 pub loop-k-preserved : goal.loop-k-preserved
 loop-k-preserved c =

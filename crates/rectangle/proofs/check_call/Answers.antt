@@ -6,7 +6,7 @@ use Rattle.rectanglerun.specs.Runs.{Matched, matched, size-most}
 use Rattle.rules.specs.Calls.{Plan, joint}
 use Rattle.rules.specs.declared.Answer.{Answer}
 use Rattle.rectangle.proofs.check_call.Goals as goal
-use Rattle.rectangle.proofs.check_call.Goals.{After-check_lengths, After-check_pair_starts-c, Else-a-ne0, Else-c-ne0, Start}
+use Rattle.rectangle.proofs.check_call.Goals.{After-check_lengths, After-check_pair_starts-c, After-count_at, After-count_at-2, Else-a-ne0, Else-c-ne0, Start, Then-a-ne0, Then-c-ne0}
 
 -- The checks in turn (`rule-stops`, `sheets-stop`, `lengths-left`).
 -- the plan that is called
@@ -67,8 +67,8 @@ told : (c : After-check_lengths) →
 unfolding joint
 told c = c.check_lengths.ensures ∙ rw (c.before.before.count_at.ensures, c.before.count_at-2.ensures)
 
-pub returns-then-a-ne0 : goal.returns
-returns-then-a-ne0 c =
+pub returns : goal.returns
+returns c =
     let c = (goal.at.returns c).After-check_lengths in
     let f = c.before.before.before in
     let h = f.before.before in

@@ -5,6 +5,7 @@ use Rattle.laws.specs.Accepted.{reading-inside}
 use Rattle.rules.specs.Sheets.{reading}
 use Rattle.rules.specs.declared.Mark.{Mark}
 use Rattle.sheet.proofs.rest.Goals as goal
+use Rattle.sheet.proofs.rest.Goals.{Then-c-ne0, Then-r-ne0}
 
 placed : (s : List ℤ) {r : Mark} → r ≡ reading s → r.place ≤ length s
 placed s e = rw e (reading-inside s)

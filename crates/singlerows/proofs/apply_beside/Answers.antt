@@ -11,7 +11,7 @@ use Rattle.singlerows.specs.SingleRowsInPlace.{row-through, row-beyond, turned-s
 use Rattle.whole.specs.Diff.{Within}
 use Rattle.whole.specs.Machine.{reads, back}
 use Rattle.singlerows.proofs.apply_beside.Goals as goal
-use Rattle.singlerows.proofs.apply_beside.Goals.{After-applied_beside-z, After-sign_at-d, After-turn_row, Else-not-is_within, Start}
+use Rattle.singlerows.proofs.apply_beside.Goals.{After-applied_beside-z, After-sign_at-d, After-turn_row, After-turn_row-arg-1, Else-not-is_within, Start, Then-not-is_within}
 
 -- the sign of the row
 abbrev D : Start → ℤ
@@ -70,8 +70,8 @@ turned c =
     let g = c.before.before.before.before.before.before in
     laid-turned g.before.requires.0 g.before.requires.3 (rw (sign g) at c.turn_row.ensures)
 
-pub returns-then-not-is_within : goal.returns
-returns-then-not-is_within c =
+pub returns : goal.returns
+returns c =
     let c = (goal.at.returns c).After-turn_row in
     let e = c.before.before in
     let s = e.before.before.before.before.before in

@@ -6,7 +6,7 @@ use Rattle.joint.specs.RowsInPlace.{in_block}
 use Rattle.joint.specs.Triangles.{applied-row}
 use Rattle.whole.specs.Machine.{back}
 use Rattle.singlerows.proofs.apply_crossing.Goals as goal
-use Rattle.singlerows.proofs.apply_crossing.Goals.{After-sign_at, Start}
+use Rattle.singlerows.proofs.apply_crossing.Goals.{After-apply_elements, After-apply_elements-arg-1, After-sign_at, Start}
 
 -- the row lies in the block
 room : (s : Start) → s.args.i * s.args.fb.order + s.args.fb.order ≤ 256

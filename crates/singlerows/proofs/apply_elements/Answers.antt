@@ -11,7 +11,7 @@ use Rattle.singlerows.specs.SingleRowsInPlace.{row-through, row-beyond, turn-bey
 use Rattle.whole.specs.Diff.{Within}
 use Rattle.whole.specs.Machine.{fits, reads, back}
 use Rattle.singlerows.proofs.apply_elements.Goals as goal
-use Rattle.singlerows.proofs.apply_elements.Goals.{After-applied_whole-z, After-crossing_total-s, After-sign_at, Else-not-is_within, In-loop-j, Start}
+use Rattle.singlerows.proofs.apply_elements.Goals.{After-applied_whole-arg-1, After-applied_whole-z, After-crossing_total-s, After-loop-j, After-sign_at, Else-not-is_within, In-loop-j, Start, Then-not-is_within}
 
 -- what was lent
 abbrev S : In-loop-j → Start
@@ -97,8 +97,8 @@ loop-j-preserved c =
       rw (value c.before.before, reads w32 (held c) tt) (bounded-set l.x (s.args.k + l.j) l.invariant.2 (held c)),
     )
 
-pub returns-then-not-is_within : goal.returns
-returns-then-not-is_within c =
+pub returns : goal.returns
+returns c =
     let c = (goal.at.returns c).After-loop-j in
     let s = c.before.before.before in
     let l = c.before.loop-j in

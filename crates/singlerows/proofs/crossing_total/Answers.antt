@@ -4,7 +4,7 @@ use Rattle.joint.specs.Elements.{sign_at}
 use Rattle.singlerows.specs.SingleRows.{total-beside}
 use Rattle.whole.specs.Machine.{reads, back}
 use Rattle.singlerows.proofs.crossing_total.Goals as goal
-use Rattle.singlerows.proofs.crossing_total.Goals.{After-sign_at}
+use Rattle.singlerows.proofs.crossing_total.Goals.{After-sign_at, After-with_diagonal}
 
 sign : (c : After-sign_at) → let s = c.before.before in
     to_z w32 (of_z w32 c.sign_at.result) ≡ sign_at s.args.row.now s.args.f s.args.j

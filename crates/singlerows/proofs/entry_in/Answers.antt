@@ -3,7 +3,7 @@ use Rattle.std.proofs.Common.{sym, ◌+◌, ◌-◌, ◌<◌, arith, length, w32
 use Rattle.singlerows.specs.LaidRows.{entry-left, entry-own, entry-right, entry-there, entry-small}
 use Rattle.whole.specs.Machine.{reads}
 use Rattle.singlerows.proofs.entry_in.Goals as goal
-use Rattle.singlerows.proofs.entry_in.Goals.{Else-j-q-2, Then-j-q}
+use Rattle.singlerows.proofs.entry_in.Goals.{After-result-1, After-result-2-1, Else-j-q-2, Then-j-q, Then-j-q-2}
 
 -- By the side of the row's own column on which it stands (`entry-left`, `entry-own`, `entry-right`).
 -- left of it
@@ -65,8 +65,8 @@ bounds-row-entries-2 c =
     let c = (goal.at.bounds-row-entries-2 c).Else-j-q-2 in
     right c
 
-pub returns-then-j-q : goal.returns
-returns-then-j-q c =
+pub returns : goal.returns
+returns c =
     let c = (goal.at.returns c).After-result-2-1 in
     let s = c.before.before.before in
     rw (← (entry-right s.args.row.now s.args.f s.args.j (beyond c.before)))

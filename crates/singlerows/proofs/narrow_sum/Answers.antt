@@ -4,6 +4,7 @@ use Rattle.rules.specs.Numbers.{at}
 use Rattle.singlerows.specs.SingleRows.{narrow-small}
 use Rattle.whole.specs.Machine.{fits, reads, within-+, within-*}
 use Rattle.singlerows.proofs.narrow_sum.Goals as goal
+use Rattle.singlerows.proofs.narrow_sum.Goals.{After-with_term-arg-in-loop-j-1}
 
 pub with_term-sum-requires : goal.with_term-sum-requires
 with_term-sum-requires c =

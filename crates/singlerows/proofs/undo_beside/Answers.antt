@@ -11,7 +11,7 @@ use Rattle.singlerows.specs.SingleRowsInPlace.{row-through, row-beyond, turned-s
 use Rattle.whole.specs.Diff.{Within}
 use Rattle.whole.specs.Machine.{reads, back}
 use Rattle.singlerows.proofs.undo_beside.Goals as goal
-use Rattle.singlerows.proofs.undo_beside.Goals.{After-sign_at-d, After-turn_row, After-undone_beside-z, Else-not-is_within, Start}
+use Rattle.singlerows.proofs.undo_beside.Goals.{After-sign_at-d, After-turn_row, After-turn_row-arg-1, After-undone_beside-z, Else-not-is_within, Start, Then-not-is_within}
 
 -- the sign of the row
 abbrev D : Start → ℤ
@@ -92,8 +92,8 @@ returns-then-not-is_within c =
 held : (c : Else-not-is_within) → Within bound (Z c.before.before.before.before)
 held c = test-yes bound (value c.before.before) c.before.is_within.ensures (not-false _ c.if-not-is_within.false)
 
-pub returns-then-not-is_within : goal.returns
-returns-then-not-is_within c =
+pub returns : goal.returns
+returns c =
     let c = (goal.at.returns c).Else-not-is_within in
     let z = c.before.before in
     let t = turned z.before.before in

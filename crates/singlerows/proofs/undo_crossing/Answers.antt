@@ -15,7 +15,7 @@ use Rattle.rules.specs.Numbers.{most_entry, bound, at}
 use Rattle.whole.specs.Diff.{Within}
 use Rattle.whole.specs.Machine.{fits, reads, back, within-le, within-+, within-*}
 use Rattle.singlerows.proofs.undo_crossing.Goals as goal
-use Rattle.singlerows.proofs.undo_crossing.Goals.{After-diagonal_of, After-nth_undone-j, After-sign_at-d, After-undone_at-z, After-with_sum, Else-not-is_within}
+use Rattle.singlerows.proofs.undo_crossing.Goals.{After-diagonal_of, After-loop-u, After-nth_undone-j, After-rest_sums_at, After-sign_at-d, After-undone_at-arg-1, After-undone_at-z, After-v-in-loop-u-1, After-with_sum, Else-not-is_within, Then-not-is_within}
 
 pub loop-u-init : goal.loop-u-init
 unfolding in_place rest_sums
@@ -240,8 +240,8 @@ loop-u-preserved c =
       length-set l.v-1 p.nth_undone-j.result _ ∙ l.invariant.5,
     )
 
-pub returns-then-not-is_within : goal.returns
-returns-then-not-is_within c =
+pub returns : goal.returns
+returns c =
     let c = (goal.at.returns c).After-loop-u in
     let s = c.before.before.before.before.before in
     let l = c.before.loop-u in

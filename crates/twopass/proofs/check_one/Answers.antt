@@ -9,7 +9,7 @@ use Rattle.rules.specs.Calls.{Plan, column_pass}
 use Rattle.rules.specs.Numbers.{most_cells}
 use Rattle.rules.specs.declared.Answer.{Answer}
 use Rattle.twopass.proofs.check_one.Goals as goal
-use Rattle.twopass.proofs.check_one.Goals.{After-check_lengths, After-check_order-o, After-check_starts-c, Else-a-ne0, Start, Then-c-ne0}
+use Rattle.twopass.proofs.check_one.Goals.{After-check_lengths, After-check_order-o, After-check_starts-c, After-count_at, Else-a-ne0, Else-o-ne0, Start, Then-a-ne0, Then-c-ne0, Then-o-ne0}
 
 -- The checks in turn (`rule-stops`, `sheets-stop`, `lengths-left`): the sheet's and the other order's are the plan's, one after
 -- the other.
@@ -94,8 +94,8 @@ told : (c : After-check_lengths) →
 unfolding column_pass
 told c = c.check_lengths.ensures ∙ rw c.before.count_at.ensures
 
-pub returns-then-a-ne0 : goal.returns
-returns-then-a-ne0 c =
+pub returns : goal.returns
+returns c =
     let c = (goal.at.returns c).After-check_lengths in
     let f = c.before.before in
     let o = f.before.before in

@@ -5,7 +5,7 @@ use Rattle.laws.specs.Accepted.{Accepted, accepted-order, order-counts, two-read
 use Rattle.rules.specs.Calls.{Plan, two_pass}
 use Rattle.rules.specs.declared.Answer.{Answer}
 use Rattle.twopass.proofs.check_two.Goals as goal
-use Rattle.twopass.proofs.check_two.Goals.{After-check_lengths, After-check_two_starts-c, Else-a-ne0, Else-c-ne0, Start}
+use Rattle.twopass.proofs.check_two.Goals.{After-check_lengths, After-check_two_starts-c, After-count_at, After-count_at-2, Else-a-ne0, Else-c-ne0, Start, Then-a-ne0, Then-c-ne0}
 
 -- The checks in turn (`rule-stops`, `sheets-stop`, `lengths-left`).
 -- the plan that is called
@@ -68,8 +68,8 @@ told : (c : After-check_lengths) →
 unfolding two_pass
 told c = c.check_lengths.ensures ∙ rw (c.before.before.count_at.ensures, c.before.count_at-2.ensures)
 
-pub returns-then-a-ne0 : goal.returns
-returns-then-a-ne0 c =
+pub returns : goal.returns
+returns c =
     let c = (goal.at.returns c).After-check_lengths in
     let f = c.before.before.before in
     let h = f.before.before in

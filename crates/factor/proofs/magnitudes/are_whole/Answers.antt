@@ -5,7 +5,7 @@ use Rattle.factor.specs.Magnitudes.{whole-end, whole-on, whole-stop}
 use Rattle.rules.specs.Numbers.{unit, at}
 use Rattle.whole.specs.Machine.{reads}
 use Rattle.factor.proofs.magnitudes.are_whole.Goals as goal
-use Rattle.factor.proofs.magnitudes.are_whole.Goals.{After-is_whole}
+use Rattle.factor.proofs.magnitudes.are_whole.Goals.{After-is_whole, After-loop-j, Else-not-is_whole, Then-not-is_whole}
 
 told :
     (c : After-is_whole →
@@ -33,7 +33,7 @@ loop-j-preserved c =
           (sym (told c.before) ∙ not-false _ c.if-not-is_whole.false),
     )
 
-pub returns-then-not-is_whole : goal.returns
-returns-then-not-is_whole c =
+pub returns : goal.returns
+returns c =
     let c = (goal.at.returns c).After-loop-j in
     sym (c.before.loop-j.invariant.1 ∙ whole-end _ _ _ c.before.loop-j.j (omega arith))

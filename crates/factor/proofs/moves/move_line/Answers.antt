@@ -3,6 +3,7 @@ use Rattle.std.proofs.Common.{◌∙◌}
 use Rattle.factor.specs.MovedInPlace.{moved-aside}
 use Rattle.factor.specs.Tasks.{is_inverse}
 use Rattle.factor.proofs.moves.move_line.Goals as goal
+use Rattle.factor.proofs.moves.move_line.Goals.{After-x-1}
 
 pub returns : goal.returns
 returns c =

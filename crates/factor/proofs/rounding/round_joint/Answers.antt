@@ -4,6 +4,7 @@ use Rattle.factor.specs.Rounding.{rule_by, none-past, rounded}
 use Rattle.rules.specs.Numbers.{unit²}
 use Rattle.whole.specs.Machine.{back}
 use Rattle.factor.proofs.rounding.round_joint.Goals as goal
+use Rattle.factor.proofs.rounding.round_joint.Goals.{After-round_past}
 
 pub returns : goal.returns
 returns c =

@@ -5,7 +5,7 @@ use Rattle.laws.specs.Accepted.{accepted-count, count-counts}
 use Rattle.rules.specs.Answers.{start}
 use Rattle.rules.specs.Numbers.{count}
 use Rattle.factor.proofs.run.nth_start.Goals as goal
-use Rattle.factor.proofs.run.nth_start.Goals.{After-nth_stage}
+use Rattle.factor.proofs.run.nth_start.Goals.{After-nth_stage, After-result-1, After-way_told-1, Start}
 
 -- The table's entry is the start of that factor, which stands in the sheet.
 pub count_at-requires : goal.count_at-requires

@@ -6,7 +6,7 @@ use Rattle.rules.specs.Numbers.{most_entry, most_allowance, at}
 use Rattle.whole.specs.Diff.{Within}
 use Rattle.whole.specs.Machine.{fits, reads, back}
 use Rattle.factor.proofs.sums.row_sum.Goals as goal
-use Rattle.factor.proofs.sums.row_sum.Goals.{After-products_sum_from}
+use Rattle.factor.proofs.sums.row_sum.Goals.{After-products_sum_from, After-products_sum_from-arg-2-1}
 
 pub products_sum_from-requires : goal.products_sum_from-requires
 products_sum_from-requires c =

@@ -5,7 +5,7 @@ use Rattle.four.specs.TurnLaws.{rounded-sum-small, turned_as}
 use Rattle.four.specs.Turns.{element_by}
 use Rattle.whole.specs.Machine.{fits, reads, back, within-+, sign-within, within-sign}
 use Rattle.four.proofs.elements.applied_at.Goals as goal
-use Rattle.four.proofs.elements.applied_at.Goals.{After-applied}
+use Rattle.four.proofs.elements.applied_at.Goals.{After-applied, After-applied-arg-2-1, After-with_number}
 
 pub applied-requires : goal.applied-requires
 applied-requires c =

@@ -8,7 +8,7 @@ use Rattle.rules.specs.Numbers.{bound}
 use Rattle.rules.specs.Stages.{inside}
 use Rattle.whole.specs.Machine.{fits, reads, back, within--, sign-within, within-sign}
 use Rattle.four.proofs.elements.undone_at.Goals as goal
-use Rattle.four.proofs.elements.undone_at.Goals.{After-undone}
+use Rattle.four.proofs.elements.undone_at.Goals.{After-undone, After-undone-arg-2-1, After-with_number}
 
 pub undone-requires : goal.undone-requires
 undone-requires c =

@@ -7,7 +7,7 @@ use Rattle.rules.specs.Numbers.{at, count}
 use Rattle.rules.specs.Stages.{fill}
 use Rattle.whole.specs.Machine.{reads}
 use Rattle.four.proofs.moves.applied.Goals as goal
-use Rattle.four.proofs.moves.applied.Goals.{Start}
+use Rattle.four.proofs.moves.applied.Goals.{After-result-4-1, Start}
 
 len : (s : Start) → length s.args.t3 ≡ 4
 len s = search rules

@@ -1,6 +1,7 @@
 -- A place of a permutation of four is below four.
 use Rattle.laws.specs.Accepted.{place_is, place-counts}
 use Rattle.four.proofs.moves.place.Goals as goal
+use Rattle.four.proofs.moves.place.Goals.{After-count_at, Start}
 
 pub count_at-requires : goal.count_at-requires
 count_at-requires c =

@@ -6,6 +6,7 @@ use Rattle.rules.specs.Numbers.{count}
 use Rattle.rules.specs.Stages.{put_back}
 use Rattle.whole.specs.Machine.{reads}
 use Rattle.four.proofs.moves.undone.Goals as goal
+use Rattle.four.proofs.moves.undone.Goals.{After-x-4-1}
 
 pub returns : goal.returns
 unfolding moved_by put_back

@@ -4,6 +4,7 @@ use Rattle.joint.specs.Allowances.{magnitudes-band}
 use Rattle.rules.specs.Numbers.{unit}
 use Rattle.whole.specs.Machine.{within-le, within-pos}
 use Rattle.joint.proofs.allowances.magnitude_sum_at.Goals as goal
+use Rattle.joint.proofs.allowances.magnitude_sum_at.Goals.{After-a-1}
 
 pub joint_sum-requires : goal.joint_sum-requires
 joint_sum-requires c =

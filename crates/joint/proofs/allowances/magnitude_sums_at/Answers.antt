@@ -1,6 +1,7 @@
 -- The magnitudes lie in the copy as the entries do in the sheet (`magnitudes-band`).
 use Rattle.joint.specs.Allowances.{magnitudes-band}
 use Rattle.joint.proofs.allowances.magnitude_sums_at.Goals as goal
+use Rattle.joint.proofs.allowances.magnitude_sums_at.Goals.{After-column_sums-arg-1}
 
 pub column_sums-requires : goal.column_sums-requires
 column_sums-requires c =

@@ -3,7 +3,7 @@ use Rattle.std.proofs.Common.{◌≡◌, ◌∙◌, ◌*ℤ◌, to_z-of_z, w64, 
 use Rattle.joint.specs.Elements.{applied_from, own-term}
 use Rattle.whole.specs.Machine.{back}
 use Rattle.joint.proofs.elements.applied_whole.Goals as goal
-use Rattle.joint.proofs.elements.applied_whole.Goals.{After-own}
+use Rattle.joint.proofs.elements.applied_whole.Goals.{After-own, After-round_past}
 
 own : (c : After-own) → let s = c.before in
     to_z w64 (of_z w64 c.own.result) ≡ (s.args.d *ℤ s.args.e) *ℤ s.args.x

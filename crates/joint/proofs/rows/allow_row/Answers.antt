@@ -11,7 +11,7 @@ use Rattle.rules.specs.Numbers.{most_allowance, at}
 use Rattle.whole.specs.Diff.{Within}
 use Rattle.whole.specs.Machine.{reads, back}
 use Rattle.joint.proofs.rows.allow_row.Goals as goal
-use Rattle.joint.proofs.rows.allow_row.Goals.{After-allowed_at-z, After-magnitude_sums_at, Else-not-is_within, In-loop-j}
+use Rattle.joint.proofs.rows.allow_row.Goals.{After-allowed_at-arg-1, After-allowed_at-z, After-loop-j, After-magnitude_sums_at, Else-not-is_within, In-loop-j, Then-not-is_within}
 
 -- element e by the test and the sums of its row
 abbrev G : After-magnitude_sums_at → ℕ → ℤ
@@ -99,8 +99,8 @@ loop-j-preserved c =
           (bounded-set l.x (P c.before.before.before.before.before) l.invariant.2 (held c)),
     )
 
-pub returns-then-not-is_within : goal.returns
-returns-then-not-is_within c =
+pub returns : goal.returns
+returns c =
     let c = (goal.at.returns c).After-loop-j in
     let s = c.before.before.before.before.before.before in
     let l = c.before.loop-j in

@@ -5,7 +5,7 @@ use Rattle.rules.specs.Numbers.{at}
 use Rattle.rules.specs.Stages.{fill}
 use Rattle.whole.specs.Machine.{fits, reads, back, within-+, within-*}
 use Rattle.joint.proofs.sums.add_row.Goals as goal
-use Rattle.joint.proofs.sums.add_row.Goals.{In-loop-c}
+use Rattle.joint.proofs.sums.add_row.Goals.{After-with_term, After-with_term-arg-in-loop-c-1, In-loop-c}
 
 -- the sum whose turn it is
 still : (i : In-loop-c →

@@ -3,7 +3,7 @@ use Rattle.std.proofs.Common.{◌∙◌, ◌+◌, ◌*◌, ◌≤◌, arith, w32
 use Rattle.joint.specs.Sums.{added_none, adding-small, adding-next}
 use Rattle.whole.specs.Machine.{reads}
 use Rattle.joint.proofs.sums.add_rows.Goals as goal
-use Rattle.joint.proofs.sums.add_rows.Goals.{In-loop-j}
+use Rattle.joint.proofs.sums.add_rows.Goals.{After-add_row, After-add_row-arg-in-loop-j-1, In-loop-j, Start}
 
 pub loop-j-init : goal.loop-j-init
 loop-j-init c =

@@ -2,7 +2,7 @@
 use Rattle.std.proofs.Common.{◌∙◌, suc, ◌+◌, ◌*◌, ◌≤◌, mul-le-mul, arith, to_z-of_z}
 use Rattle.joint.specs.Sums.{rest-sums-small, column-rows}
 use Rattle.joint.proofs.sums.column_sums.Goals as goal
-use Rattle.joint.proofs.sums.column_sums.Goals.{Start}
+use Rattle.joint.proofs.sums.column_sums.Goals.{After-add_row, After-add_row-arg-1, Start}
 
 room : (s : Start) → s.args.m * s.args.n + s.args.n ≤ 256
 room s =

@@ -5,7 +5,7 @@ use Rattle.rules.specs.Numbers.{at}
 use Rattle.whole.specs.Diff.{Within}
 use Rattle.whole.specs.Machine.{fits, reads, back, within--, within-*}
 use Rattle.joint.proofs.sums.joint_sum.Goals as goal
-use Rattle.joint.proofs.sums.joint_sum.Goals.{After-without, Start}
+use Rattle.joint.proofs.sums.joint_sum.Goals.{After-whole_sum, After-without, After-without-arg-1, Start}
 
 abbrev W : Start → ℤ
 W s = at s.args.v.now s.args.m -ℤ (s.args.other *ℤ s.args.x)

@@ -2,6 +2,7 @@
 use Rattle.std.proofs.Common.{◌∙◌}
 use Rattle.joint.specs.Sums.{above, below, rest-rows}
 use Rattle.joint.proofs.sums.rest_sums.Goals as goal
+use Rattle.joint.proofs.sums.rest_sums.Goals.{After-add_rows-2, After-add_rows-arg-1, After-add_rows-arg-2-1}
 
 -- The rows above, then the rows below (`rest-rows`).
 pub add_rows-requires : goal.add_rows-requires

@@ -2,6 +2,7 @@
 use Rattle.std.proofs.Common.{refl, arith}
 use Rattle.joint.specs.Sums.{side-adding, nothing}
 use Rattle.joint.proofs.sums.side_sums.Goals as goal
+use Rattle.joint.proofs.sums.side_sums.Goals.{After-add_rows-arg-1}
 
 pub add_rows-requires : goal.add_rows-requires
 add_rows-requires c =

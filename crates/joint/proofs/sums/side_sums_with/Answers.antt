@@ -3,6 +3,7 @@ use Rattle.std.proofs.Common.{◌∙◌, arith, pos, replicate, to_z-of_z}
 use Rattle.joint.specs.Sums.{side-adding, own-small, added_twice}
 use Rattle.rules.specs.Laws.Lists.{length-fill}
 use Rattle.joint.proofs.sums.side_sums_with.Goals as goal
+use Rattle.joint.proofs.sums.side_sums_with.Goals.{After-add_rows, After-add_rows-arg-1}
 
 pub add_rows-requires : goal.add_rows-requires
 add_rows-requires c =

@@ -4,7 +4,7 @@ use native.Mathlib.Nat.{div-add-mod}
 use Rattle.joint.specs.Sums.{Adding, rows_sum, side-four, nothing, four-rows, four-more, adding-all-small}
 use Rattle.rules.specs.Laws.Lists.{fill-same}
 use Rattle.joint.proofs.sums.sums_by_fours.Goals as goal
-use Rattle.joint.proofs.sums.sums_by_fours.Goals.{In-loop-g}
+use Rattle.joint.proofs.sums.sums_by_fours.Goals.{After-put_four, After-put_four-arg-1, After-t-1, In-loop-g}
 
 -- the columns of this turn
 columns : (i : In-loop-g → 4 * i.before.loop-g.g + 4 ≤ i.before.before.args.n

@@ -5,7 +5,7 @@ use Rattle.joint.specs.Sums.{Adding, added, side_with, side-four, own-small, fou
 use Rattle.rules.specs.Laws.Lists.{length-fill}
 use Rattle.rules.specs.Numbers.{at}
 use Rattle.joint.proofs.sums.sums_by_fours_with.Goals as goal
-use Rattle.joint.proofs.sums.sums_by_fours_with.Goals.{In-loop-g}
+use Rattle.joint.proofs.sums.sums_by_fours_with.Goals.{After-put_four, After-put_four-arg-1, After-t-in-loop-g-1, In-loop-g}
 
 -- the columns of this turn
 columns : (i : In-loop-g → 4 * i.before.loop-g.g + 4 ≤ i.before.before.args.n

@@ -5,7 +5,7 @@ use Rattle.rules.specs.Numbers.{at, most_entry}
 use Rattle.whole.specs.Diff.{Within}
 use Rattle.whole.specs.Machine.{fits, reads, back, within-+, within-*}
 use Rattle.joint.proofs.sums.whole_sum.Goals as goal
-use Rattle.joint.proofs.sums.whole_sum.Goals.{After-wide_sum-2, Start}
+use Rattle.joint.proofs.sums.whole_sum.Goals.{After-wide_sum, After-wide_sum-2, After-with_sum, Start}
 
 pub wide_sum-requires-2 : goal.wide_sum-requires-2
 wide_sum-requires-2 c =

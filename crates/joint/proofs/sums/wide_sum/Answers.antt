@@ -4,6 +4,7 @@ use Rattle.joint.specs.Sums.{wide-small}
 use Rattle.rules.specs.Numbers.{at}
 use Rattle.whole.specs.Machine.{fits, reads, within-+, within-*}
 use Rattle.joint.proofs.sums.wide_sum.Goals as goal
+use Rattle.joint.proofs.sums.wide_sum.Goals.{After-with_sum-arg-in-loop-j-1}
 
 pub with_sum-sum-requires : goal.with_sum-sum-requires
 with_sum-sum-requires c =

@@ -2,6 +2,7 @@
 use Rattle.std.proofs.Common.{◌∙◌}
 use Rattle.factor.specs.PaddedBlocks.{load_is}
 use Rattle.linerun.proofs.block.load.Goals as goal
+use Rattle.linerun.proofs.block.load.Goals.{After-b-2-1}
 
 pub returns : goal.returns
 returns c =

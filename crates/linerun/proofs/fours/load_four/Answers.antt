@@ -2,6 +2,7 @@
 use Rattle.std.proofs.Common.{refl, ◌∙◌}
 use Rattle.linerun.specs.Fours.{fill-four}
 use Rattle.linerun.proofs.fours.load_four.Goals as goal
+use Rattle.linerun.proofs.fours.load_four.Goals.{After-b-2-1}
 
 pub returns : goal.returns
 returns c =

@@ -9,7 +9,7 @@ use Rattle.rules.specs.Numbers.{most_allowance, at}
 use Rattle.whole.specs.Diff.{Within}
 use Rattle.whole.specs.Machine.{back, within-le}
 use Rattle.linerun.proofs.kinds.left_sum.Goals as goal
-use Rattle.linerun.proofs.kinds.left_sum.Goals.{After-products_sum, Start}
+use Rattle.linerun.proofs.kinds.left_sum.Goals.{After-products_sum, After-products_sum-arg-2-1, After-round_line, Start}
 
 bounded : (s : Start) → Bounded most_allowance s.args.x.now
 bounded s = bounded-le (omega arith) s.requires.0.2

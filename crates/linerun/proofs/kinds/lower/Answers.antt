@@ -12,7 +12,7 @@ use Rattle.rules.specs.Stages.{fill}
 use Rattle.rules.specs.declared.Rule.{Rule}
 use Rattle.whole.specs.Machine.{back}
 use Rattle.linerun.proofs.kinds.lower.Goals as goal
-use Rattle.linerun.proofs.kinds.lower.Goals.{After-apply_at, After-left_sum-q, In-loop-m, Start}
+use Rattle.linerun.proofs.kinds.lower.Goals.{After-apply_at, After-left_sum-q, After-loop-m, After-x-1, After-y-1, Else-not-apply_at, In-loop-m, Start, Then-not-apply_at}
 
 -- the rule of the two tests
 abbrev K : Start → Rule
@@ -107,8 +107,8 @@ loop-m-preserved c =
           (not-false _ c.if-not-apply_at.false),
     )
 
-pub returns-then-not-apply_at : goal.returns
-returns-then-not-apply_at c =
+pub returns : goal.returns
+returns c =
     let c = (goal.at.returns c).After-loop-m in
     let l = c.before in
     filled-done (fills l.before) (omega (arith, l.loop-m.invariant.1)) l.loop-m.invariant.3

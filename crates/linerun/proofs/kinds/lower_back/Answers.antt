@@ -12,7 +12,7 @@ use Rattle.rules.specs.Sheets.{triangle}
 use Rattle.rules.specs.declared.Rule.{Rule}
 use Rattle.whole.specs.Machine.{back}
 use Rattle.linerun.proofs.kinds.lower_back.Goals as goal
-use Rattle.linerun.proofs.kinds.lower_back.Goals.{After-left_sum-q, After-undo_at, In-loop-t, Start}
+use Rattle.linerun.proofs.kinds.lower_back.Goals.{After-left_sum-q, After-loop-t, After-undo_at, After-x-1, After-x-in-loop-t-1, Else-not-undo_at, In-loop-t, Start, Then-not-undo_at}
 
 -- the rule of the two tests
 abbrev K : Start → Rule
@@ -119,8 +119,8 @@ loop-t-preserved c =
           (not-false _ c.if-not-undo_at.false),
     )
 
-pub returns-then-not-undo_at : goal.returns
-returns-then-not-undo_at c =
+pub returns : goal.returns
+returns c =
     let c = (goal.at.returns c).After-loop-t in
     let l = c.before in
     filled-done (fills l.before) (omega (arith, l.loop-t.invariant.1)) l.loop-t.invariant.3

@@ -10,7 +10,7 @@ use Rattle.rules.specs.Stages.{fill}
 use Rattle.rules.specs.declared.Rule.{Rule}
 use Rattle.whole.specs.Machine.{back}
 use Rattle.linerun.proofs.kinds.single.Goals as goal
-use Rattle.linerun.proofs.kinds.single.Goals.{After-apply_at, After-single_sum-q, In-loop-m, Start}
+use Rattle.linerun.proofs.kinds.single.Goals.{After-apply_at, After-loop-m, After-single_sum-q, After-y-1, Else-not-apply_at, In-loop-m, Start, Then-not-apply_at}
 
 -- the rule of the two tests
 abbrev K : Start → Rule
@@ -79,8 +79,8 @@ loop-m-preserved c =
           (not-false _ c.if-not-apply_at.false),
     )
 
-pub returns-then-not-apply_at : goal.returns
-returns-then-not-apply_at c =
+pub returns : goal.returns
+returns c =
     let c = (goal.at.returns c).After-loop-m in
     let l = c.before in
     filled-done (fills l.before) (omega (arith, l.loop-m.invariant.1)) l.loop-m.invariant.2

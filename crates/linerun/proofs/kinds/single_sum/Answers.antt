@@ -9,7 +9,7 @@ use Rattle.rules.specs.Numbers.{at}
 use Rattle.whole.specs.Diff.{Within}
 use Rattle.whole.specs.Machine.{back, within-le}
 use Rattle.linerun.proofs.kinds.single_sum.Goals as goal
-use Rattle.linerun.proofs.kinds.single_sum.Goals.{After-row_sum}
+use Rattle.linerun.proofs.kinds.single_sum.Goals.{After-row_sum, Then-m-f}
 
 -- Only one row has entries (`single-none`); its sum is small (`row_small`), so it and its rounding fit 64 bits.
 pub returns-then-m-f : goal.returns-then-m-f

@@ -14,7 +14,7 @@ use Rattle.rules.specs.Sheets.{triangle}
 use Rattle.rules.specs.declared.Rule.{Rule}
 use Rattle.whole.specs.Machine.{back}
 use Rattle.linerun.proofs.kinds.upper_back.Goals as goal
-use Rattle.linerun.proofs.kinds.upper_back.Goals.{After-right_sum-q, After-undo_at, In-loop-t, Start}
+use Rattle.linerun.proofs.kinds.upper_back.Goals.{After-loop-t, After-right_sum-q, After-struct_known-1, After-undo_at, After-x-1, After-x-in-loop-t-1, Else-not-undo_at, In-loop-t, Start, Then-not-undo_at}
 
 -- the rule of the two tests
 abbrev K : Start → Rule
@@ -61,7 +61,7 @@ loop-t-init c =
       c.before.before.args.f.order = omega arith in rw z (omega (arith, above-all c.before.before.args.f.order)),
   record
       { is = refl; small = c.before.before.requires.3 },
-)
+    )
 
 -- the turn is one of the order's
 turn : (c : In-loop-t → c.before.loop-t.t < c.before.before.before.before.args.f.order
@@ -149,8 +149,8 @@ loop-t-preserved c =
           (not-false _ c.if-not-undo_at.false),
     )
 
-pub returns-then-not-undo_at : goal.returns
-returns-then-not-undo_at c =
+pub returns : goal.returns
+returns c =
     let c = (goal.at.returns c).After-loop-t in
     let l = c.before in
     filled-done (fills l.before.before.before) (omega (arith, l.loop-t.invariant.1)) l.loop-t.invariant.3

@@ -8,7 +8,7 @@ use Rattle.laws.specs.Accepted.{accepted-order, order-counts, count-counts}
 use Rattle.linerun.specs.Runs.{at_stage, line-listed, run-starts, run-ends-done, run-ends-stopped}
 use Rattle.rules.specs.Numbers.{most_order, count}
 use Rattle.linerun.proofs.runs.run_stages.Goals as goal
-use Rattle.linerun.proofs.runs.run_stages.Goals.{After-run_stage-s, At-loop-t, In-loop-t}
+use Rattle.linerun.proofs.runs.run_stages.Goals.{After-count_at-many, After-count_at-n, After-loop-t, After-nth_start-i, After-run_stage-s, After-v-1, At-loop-t, In-loop-t, Start, Then-not-s}
 
 -- what the loop holds
 ranged :
@@ -93,8 +93,8 @@ loop-t-preserved c =
           (not-false _ c.before.if-not-s.false),
     )
 
-pub returns-then-not-s : goal.returns
-returns-then-not-s c =
+pub returns : goal.returns
+returns c =
     let c = (goal.at.returns c).After-loop-t in
     let l = c.before.loop-t in
     let s = c.before.before.before.before in

@@ -11,7 +11,7 @@ use Rattle.rules.specs.Numbers.{count}
 use Rattle.rules.specs.Sheets.{kind_of}
 use Rattle.rules.specs.declared.Kind.TheVariants.{Permutation}
 use Rattle.linerun.proofs.stages.run_stage.Goals as goal
-use Rattle.linerun.proofs.stages.run_stage.Goals.{Else-is_move, Start, Then-is_move}
+use Rattle.linerun.proofs.stages.run_stage.Goals.{After-allow_weights, After-apply_weights, After-undo_weights, After-y-1, After-y-then-is_move-1, Else-is_move, In-Allowance, In-Forward, In-Inverse, Start, Then-is_move}
 
 -- A permutation and a factor with weights are each the document's stage (`moves-are`; `apply-is`, `undo-is`, `allow-is`).
 len : (s : Start) → length s.args.t5 ≡ 16

@@ -9,7 +9,7 @@ use Rattle.rules.specs.Numbers.{most_allowance}
 use Rattle.rules.specs.Stages.{fill}
 use Rattle.whole.specs.Machine.{back}
 use Rattle.linerun.proofs.steps.allow_weights.Goals as goal
-use Rattle.linerun.proofs.steps.allow_weights.Goals.{After-allowed_at-z, Start}
+use Rattle.linerun.proofs.steps.allow_weights.Goals.{After-allowed_at-z, After-loop-m, Start, Then-not-is_within}
 
 -- what the allowance of element k becomes
 abbrev F : Start → ℕ → ℤ
@@ -35,8 +35,8 @@ returns-then-not-is_within c =
     (fill-at _ (F s) s.args.t4 m h (let o = s.requires.0.order in omega (arith, len s)))
     (test-no most_allowance (value c.before.before) c.before.is_within.ensures (not-true _ c.if-not-is_within.true)))
 
-pub returns-then-not-is_within : goal.returns
-returns-then-not-is_within c =
+pub returns : goal.returns
+returns c =
     let c = (goal.at.returns c).After-loop-m in
     let s = c.before.before in
     let l = c.before.loop-m in

@@ -5,7 +5,7 @@ use Rattle.linerun.specs.RowColumns.{column_of, along-columns, column-below, mag
 use Rattle.rules.specs.Numbers.{most_order}
 use Rattle.whole.specs.Machine.{fits, reads, back, within-+, within-*}
 use Rattle.linerun.proofs.steps.magnitude_sum_at.Goals as goal
-use Rattle.linerun.proofs.steps.magnitude_sum_at.Goals.{After-column_of, After-magnitude}
+use Rattle.linerun.proofs.steps.magnitude_sum_at.Goals.{After-column_of, After-loop-j, After-magnitude, After-with_term-arg-1}
 
 -- the magnitude, and its column
 value : (c : After-magnitude →

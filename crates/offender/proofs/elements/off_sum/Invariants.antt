@@ -7,7 +7,7 @@ use Rattle.whole.specs.Stated.{sum}
 use Rattle.offender.proofs.elements.off_sum.Given as goal
 
 abbrev pub invariant-loop-k : goal.invariant-loop-k
-invariant-loop-k l = (l.k ≤ l.n) × (l.n ≡ cells l.q) × (l.sum ≡ (sum l.k (λ l.k. off (weight_of l.q l.col l.row) l.e l.k *ℤ at l.x l.k)))
+invariant-loop-k l = (l.k ≤ l.n) × (l.n ≡ cells l.q) × (l.sum ≡ (sum l.k (λ k. off (weight_of l.q l.col l.row) l.e k *ℤ at l.x k)))
 
 abbrev pub decreases-loop-k : goal.decreases-loop-k
 decreases-loop-k l = l.n - l.k

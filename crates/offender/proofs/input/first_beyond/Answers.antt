@@ -6,7 +6,7 @@ use Rattle.offender.specs.Search.{read_first, read_none}
 use Rattle.rules.specs.Numbers.{bound, at}
 use Rattle.whole.specs.Machine.{back}
 use Rattle.offender.proofs.input.first_beyond.Goals as goal
-use Rattle.offender.proofs.input.first_beyond.Goals.{After-wide}
+use Rattle.offender.proofs.input.first_beyond.Goals.{After-loop-e, After-wide, Then-not-is_within}
 
 -- the number, as it was read
 value :
@@ -24,7 +24,7 @@ returns-then-not-is_within c =
     (read_first _ _ l.loop-e.e (omega arith) l.loop-e.invariant
     (test-no bound (value w) c.before.is_within.ensures (not-true _ c.if-not-is_within.true)))
 
-pub returns-then-not-is_within : goal.returns
-returns-then-not-is_within c =
+pub returns : goal.returns
+returns c =
     let c = (goal.at.returns c).After-loop-e in
     let l = c.before.loop-e in sym (read_none _ _ (λ k b. l.invariant k (omega arith)))

@@ -3,7 +3,7 @@ use Rattle.std.proofs.Common.{◌<◌, arith}
 use Rattle.offender.specs.FactorMatrix.{before-most}
 use Rattle.rules.specs.Factors.{entries_before}
 use Rattle.offender.proofs.weights.entries_before.Goals as goal
-use Rattle.offender.proofs.weights.entries_before.Goals.{Start}
+use Rattle.offender.proofs.weights.entries_before.Goals.{After-before_lower, After-before_upper, Start}
 
 -- Each kind is a line of `entries_before`; a factor has fewer than 256 entries (`before-most`).
 -- a factor has few entries

@@ -2,6 +2,7 @@
 use Rattle.std.proofs.Common.{◌∙◌}
 use Rattle.offender.specs.ElementTurns.{line-turn}
 use Rattle.offender.proofs.weights.line_turn.Goals as goal
+use Rattle.offender.proofs.weights.line_turn.Goals.{After-turn_of}
 
 pub returns : goal.returns
 returns c =

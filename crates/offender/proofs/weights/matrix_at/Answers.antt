@@ -6,7 +6,7 @@ use Rattle.rules.specs.Factors.{factor_at, has_entry, matrix}
 use Rattle.rules.specs.Numbers.{unit, at}
 use Rattle.whole.specs.Machine.{back}
 use Rattle.offender.proofs.weights.matrix_at.Goals as goal
-use Rattle.offender.proofs.weights.matrix_at.Goals.{After-entries_before, After-wide, Else-not-has_entry, Then-m-k}
+use Rattle.offender.proofs.weights.matrix_at.Goals.{After-entries_before, After-product, After-wide, After-wide-2, Else-not-has_entry, Then-m-k, Then-not-has_entry}
 
 -- ---- the diagonal
 sign-inside : (c : Then-m-k) →
@@ -84,8 +84,8 @@ bounds-sheet-entries c =
     let c = (goal.at.bounds-sheet-entries c).After-entries_before in
     entry-inside c
 
-pub returns-then-m-k : goal.returns
-returns-then-m-k c =
+pub returns : goal.returns
+returns c =
     let c = (goal.at.returns c).After-wide-2 in
     let b = c.before.before in
     let e = b.before.before.before in

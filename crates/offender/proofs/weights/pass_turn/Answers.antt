@@ -5,7 +5,7 @@ use Rattle.offender.specs.RefusedBounds.{line-below, spot-below}
 use Rattle.rules.specs.Factors.{factor_at}
 use Rattle.rules.specs.Numbers.{most_order}
 use Rattle.offender.proofs.weights.pass_turn.Goals as goal
-use Rattle.offender.proofs.weights.pass_turn.Goals.{After-line_of, After-spot_of}
+use Rattle.offender.proofs.weights.pass_turn.Goals.{After-line_of, After-line_turn, After-spot_of, After-struct_known-1}
 
 -- the lines before it have few turns
 before : (c : After-line_of) → c.line_of.result * (c.before.args.q.n1 + 4) ≤ most_order * (most_order + 4)

@@ -1,6 +1,7 @@
 -- Two elements of one line have the factor's weight, others none (`pass_weight`).
 use Rattle.offender.specs.RefusedBounds.{spot-below}
 use Rattle.offender.proofs.weights.pass_weight.Goals as goal
+use Rattle.offender.proofs.weights.pass_weight.Goals.{After-spot_of-2}
 
 pub matrix_at-requires : goal.matrix_at-requires
 matrix_at-requires c =

@@ -5,7 +5,7 @@ use Rattle.offender.specs.RefusedStages.{sign_by, sign_of}
 use Rattle.rules.specs.Shapes.{joint_sign}
 use Rattle.whole.specs.Machine.{fits, back, sign-within}
 use Rattle.offender.proofs.weights.sign_at.Goals as goal
-use Rattle.offender.proofs.weights.sign_at.Goals.{After-sign_of-in-Joint}
+use Rattle.offender.proofs.weights.sign_at.Goals.{After-sign_of-in-Joint, After-spot_of, In-Joint}
 
 -- Each shape is a line of `sign_by`, from the signs of its factors.
 enum_told : tie.Need-enum-told

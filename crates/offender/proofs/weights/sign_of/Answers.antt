@@ -3,7 +3,7 @@ use Rattle.std.proofs.Common.{◌∙◌, ◌+◌, ◌<◌, arith, length, w32}
 use Rattle.offender.specs.FactorMatrix.{sign-there, sign_at_lem}
 use Rattle.whole.specs.Machine.{back}
 use Rattle.offender.proofs.weights.sign_of.Goals as goal
-use Rattle.offender.proofs.weights.sign_of.Goals.{After-layout_at-f}
+use Rattle.offender.proofs.weights.sign_of.Goals.{After-layout_at-f, After-result-1}
 
 there : (c : After-layout_at-f) → c.layout_at-f.result-1.signs + c.before.args.m < length c.before.args.sheet.now
 there c = sign-there c.before.requires.0 c.layout_at-f.ensures c.before.args.m c.before.requires.1

@@ -2,6 +2,7 @@
 use Rattle.std.proofs.Common.{rules}
 use Rattle.offender.specs.RefusedBounds.{small, in-joint, in-pass}
 use Rattle.offender.proofs.weights.turn_at.Goals as goal
+use Rattle.offender.proofs.weights.turn_at.Goals.{In-Joint, In-Pass}
 
 enum_told : tie.Need-enum-told
 enum_told c = search rules

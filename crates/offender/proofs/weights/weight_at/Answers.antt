@@ -5,7 +5,7 @@ use Rattle.offender.specs.RefusedStages.{weight_by, weight_of}
 use Rattle.rules.specs.Shapes.{joint_weight}
 use Rattle.whole.specs.Machine.{fits, back}
 use Rattle.offender.proofs.weights.weight_at.Goals as goal
-use Rattle.offender.proofs.weights.weight_at.Goals.{After-matrix_at-in-Joint}
+use Rattle.offender.proofs.weights.weight_at.Goals.{After-matrix_at-in-Joint, In-Joint, In-Pass}
 
 -- Each shape is a line of `weight_by`, from the matrices of its factors.
 enum_told : tie.Need-enum-told

@@ -2,7 +2,7 @@
 use Rattle.std.proofs.Common.{◌≡◌, ap, length}
 use Rattle.passrun.specs.BlockLaws.{lent-all, laid-nothing, laid-columns, laid-rows, from-columns, from-rows, into-lines}
 use Rattle.passrun.proofs.block.lay.Goals as goal
-use Rattle.passrun.proofs.block.lay.Goals.{Start}
+use Rattle.passrun.proofs.block.lay.Goals.{After-copy_lines, After-copy_lines-2, After-copy_lines-arg-1, After-copy_lines-arg-2-1, Start, Then-x-eq0}
 
 -- Nothing is lent, and the block stays all 0 (`laid-zeros`); or the numbers are copied to their lines (`Laid-in`).
 wide : (s : Start) → length s.args.b.now ≡ 256
@@ -39,8 +39,8 @@ copy_lines-requires-2 c =
     let l = rw c.before.if-columns.false at (lent-all a.x.now s.requires.2 c.before.before.if-x-eq0.false) in
     (from-rows a.many a.long s.requires.0 s.requires.1 l, into-lines a.many a.long s.requires.0 s.requires.1 (wide s))
 
-pub returns-then-x-eq0 : goal.returns
-returns-then-x-eq0 c =
+pub returns : goal.returns
+returns c =
     let c = (goal.at.returns c).After-copy_lines-2 in
     let d = c.before.before in
     let s = d.before.before in

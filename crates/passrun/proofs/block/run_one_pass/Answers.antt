@@ -4,7 +4,7 @@ use Rattle.passrun.specs.BlockRuns.{LaidIn}
 use Rattle.passrun.specs.OneLaws.{lent_by, laid-small, one-reaches}
 use Rattle.rules.specs.Numbers.{count}
 use Rattle.passrun.proofs.block.run_one_pass.Goals as goal
-use Rattle.passrun.proofs.block.run_one_pass.Goals.{After-lay}
+use Rattle.passrun.proofs.block.run_one_pass.Goals.{After-lay, After-lay-arg-1, After-run_pass, After-run_pass-arg-1, Start}
 
 -- The lent numbers in their lines, then the stages (`one-reaches`).
 pub count_at-requires : goal.count_at-requires

@@ -5,7 +5,7 @@ use Rattle.passrun.specs.EndLaws.{turned-done}
 use Rattle.passrun.specs.Layout.{turned, length-turning, turning-bounded}
 use Rattle.rules.specs.Numbers.{count}
 use Rattle.passrun.proofs.block.run_turned.Goals as goal
-use Rattle.passrun.proofs.block.run_turned.Goals.{After-turn}
+use Rattle.passrun.proofs.block.run_turned.Goals.{After-run_pass, After-run_pass-arg-1, After-turn, After-turn-arg-1, Start}
 
 -- The lines are the others (`turned-done`).
 pub count_at-requires : goal.count_at-requires

@@ -9,7 +9,7 @@ use Rattle.passrun.specs.EndLaws.{TwoEnded, first-asks, ended-second, one-stages
 use Rattle.passrun.specs.OneLaws.{one-done}
 use Rattle.rules.specs.Numbers.{count}
 use Rattle.passrun.proofs.block.run_two_passes.Goals as goal
-use Rattle.passrun.proofs.block.run_two_passes.Goals.{After-count_at, After-count_at-3, After-run_one_pass-r, After-run_turned-s, Start}
+use Rattle.passrun.proofs.block.run_two_passes.Goals.{After-count_at, After-count_at-2, After-count_at-3, After-count_at-k, After-run_one_pass-arg-1, After-run_one_pass-r, After-run_turned-arg-1, After-run_turned-s, Else-not-r, Else-not-s, Start, Then-not-s}
 
 -- The first pass; refused there (`ended-first`), or through the second (`ended-second`).
 pub count_at-k-requires : goal.count_at-k-requires

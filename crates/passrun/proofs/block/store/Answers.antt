@@ -2,6 +2,7 @@
 use Rattle.std.proofs.Common.{◌∙◌}
 use Rattle.passrun.specs.BlockLaws.{from-columns, from-rows, into-lines, out-columns, out-rows}
 use Rattle.passrun.proofs.block.store.Goals as goal
+use Rattle.passrun.proofs.block.store.Goals.{After-copy_lines-arg-3-1, After-copy_lines-arg-then-columns-1, After-y-1, After-y-2-1}
 
 -- The numbers of every line, from side by side to reading order (`out-columns`, `out-rows`).
 pub copy_lines-requires : goal.copy_lines-requires
@@ -33,8 +34,8 @@ copy_lines-requires-2 c =
       from-rows a.many a.long s.requires.0 s.requires.1 (rw d.if-columns.false at s.requires.3),
     )
 
-pub returns-then-columns : goal.returns
-returns-then-columns c =
+pub returns : goal.returns
+returns c =
     let c = (goal.at.returns c).After-y-2-1 in
     let d = c.before.before.before.before in
     let s = d.before in

@@ -5,6 +5,7 @@ use Rattle.passrun.specs.Layout.{close-ahead}
 use Rattle.rules.specs.Numbers.{at}
 use Rattle.whole.specs.Machine.{back}
 use Rattle.passrun.proofs.layout.close_row.Goals as goal
+use Rattle.passrun.proofs.layout.close_row.Goals.{After-x-1}
 
 pub loop-j-preserved : goal.loop-j-preserved
 unfolding scattered

@@ -3,6 +3,7 @@ use Rattle.std.proofs.Common.{ap, ◌∙◌, arith, length}
 use Rattle.passrun.specs.Layout.{length-copied, row-closed}
 use Rattle.rules.specs.Numbers.{at}
 use Rattle.passrun.proofs.layout.close_rows.Goals as goal
+use Rattle.passrun.proofs.layout.close_rows.Goals.{After-close_row, After-close_row-arg-1}
 
 pub close_row-requires : goal.close_row-requires
 close_row-requires c =

@@ -5,7 +5,7 @@ use Rattle.rules.specs.Numbers.{at}
 use Rattle.passrun.proofs.layout.copy_lines.Given as goal
 
 abbrev pub invariant-loop-m : goal.invariant-loop-m
-invariant-loop-m l = (l.m ≤ l.long) × (l.y ≡ copied l.many (λ i l. i * l.j + l * l.t) (λ i l. at l.x (i * l.k + l * l.s)) l.m l.initial.y)
+invariant-loop-m l = (l.m ≤ l.long) × (l.y ≡ copied l.many (λ i r. i * l.j + r * l.t) (λ i r. at l.x (i * l.k + r * l.s)) l.m l.initial.y)
 
 abbrev pub decreases-loop-m : goal.decreases-loop-m
 decreases-loop-m l = l.long - l.m

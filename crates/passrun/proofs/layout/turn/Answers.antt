@@ -2,7 +2,7 @@
 use Rattle.std.proofs.Common.{ap, ◌∙◌, arith, length}
 use Rattle.passrun.specs.Layout.{length-turning}
 use Rattle.passrun.proofs.layout.turn.Goals as goal
-use Rattle.passrun.proofs.layout.turn.Goals.{At-loop-i, Start}
+use Rattle.passrun.proofs.layout.turn.Goals.{After-exchange-arg-1, At-loop-i, Start}
 
 -- where the function began
 abbrev S : At-loop-i → Start

@@ -11,7 +11,7 @@ use Rattle.passrun.specs.PassRuns.{LinesOf, stage_in_turn, told, pass-goes, pass
 use Rattle.rules.specs.Numbers.{count}
 use Rattle.rules.specs.Shapes.{Lines}
 use Rattle.passrun.proofs.passes.run_pass.Goals as goal
-use Rattle.passrun.proofs.passes.run_pass.Goals.{After-run_stage, At-loop-t, In-loop-t, Start}
+use Rattle.passrun.proofs.passes.run_pass.Goals.{After-loop-t, After-run_stage, After-run_stage-arg-1, At-loop-t, Else-not-run_stage, In-loop-t, Start, Then-not-run_stage}
 
 -- where the function began
 abbrev S : At-loop-t → Start
@@ -91,8 +91,8 @@ loop-t-preserved c =
           (stepped q N r h) yes,
     )
 
-pub returns-then-not-run_stage : goal.returns
-returns-then-not-run_stage c =
+pub returns : goal.returns
+returns c =
     let c = (goal.at.returns c).After-loop-t in
     let l = c.before in
     let e : l.loop-t.t ≡ (S l).args.to = omega (arith, l.loop-t.invariant.0) in

@@ -8,7 +8,7 @@ use Rattle.passstage.specs.LaneLaws.{lane-bounded}
 use Rattle.passstage.specs.Lanes.{lane}
 use Rattle.whole.specs.Machine.{back}
 use Rattle.passstage.proofs.allowances.allow_line.Goals as goal
-use Rattle.passstage.proofs.allowances.allow_line.Goals.{After-allowed_at-z, After-keep, Start}
+use Rattle.passstage.proofs.allowances.allow_line.Goals.{After-allowed_at-z, After-keep, After-loop-m, After-v-in-loop-m-1, Start, Then-not-keep}
 
 -- the line's new allowances
 abbrev G : Start → ℕ → ℤ
@@ -39,8 +39,8 @@ returns-then-not-keep c =
     line-beyond s.args.l (G s) s.args.x.now s.requires.1 s.requires.3 s.requires.0.order i.loop-m-test.true
     (kept-no q (not-true _ c.if-not-keep.true)) (length-after k)
 
-pub returns-then-not-keep : goal.returns
-returns-then-not-keep c =
+pub returns : goal.returns
+returns c =
     let c = (goal.at.returns c).After-loop-m in
     let l = c.before.loop-m in
     let s = c.before.before.before.before.before.before in

@@ -8,7 +8,7 @@ use Rattle.rules.specs.Numbers.{unit, at}
 use Rattle.rules.specs.Stages.{R}
 use Rattle.whole.specs.Machine.{back, reads}
 use Rattle.passstage.proofs.numbers.make_numbers.Goals as goal
-use Rattle.passstage.proofs.numbers.make_numbers.Goals.{After-made-z, After-rounded, In-loop-l, Start}
+use Rattle.passstage.proofs.numbers.make_numbers.Goals.{After-is_within-fine, After-loop-l, After-made-z, After-rounded, In-loop-l, Start}
 
 -- the numbers that are made
 abbrev Z : Start → ℕ → ℤ

@@ -5,7 +5,7 @@ use Rattle.passstage.specs.RowLaws.{row-ahead, row_next, row-still}
 use Rattle.rules.specs.Numbers.{at}
 use Rattle.whole.specs.Machine.{fits, reads, within-sign}
 use Rattle.passstage.proofs.numbers.turn_row.Goals as goal
-use Rattle.passstage.proofs.numbers.turn_row.Goals.{In-loop-l}
+use Rattle.passstage.proofs.numbers.turn_row.Goals.{After-x-1, Else-d-lt0, In-loop-l}
 
 -- the number, which is not turned yet, and the same turned
 number : (c : In-loop-l → let s = c.before.before.before in let l = c.before.loop-l in

@@ -8,7 +8,7 @@ use Rattle.rules.specs.Numbers.{most_order, at}
 use Rattle.rules.specs.declared.Rule.{Rule}
 use Rattle.whole.specs.Machine.{reads, sign-within}
 use Rattle.passstage.proofs.rows.take_row.Goals as goal
-use Rattle.passstage.proofs.rows.take_row.Goals.{After-add_columns, After-add_columns-2, Start}
+use Rattle.passstage.proofs.rows.take_row.Goals.{After-add_columns, After-add_columns-2, After-make_numbers, After-make_numbers-arg-1, After-turn_row, After-v-1, After-v-2-1, Start}
 
 -- A row without entries is turned (`row-turned`), another is made of its sums (`row-summed`).
 -- the sign of the row, as it was read
@@ -70,8 +70,8 @@ make_numbers-requires c =
       sums-small s.pre.0 s.args.m s.pre.1 s.pre.3 (left a) (right b),
     )
 
-pub returns-then-left-right-eq0 : goal.returns
-returns-then-left-right-eq0 c =
+pub returns : goal.returns
+returns c =
     let c = (goal.at.returns c).After-make_numbers in
     let b = c.before.before.before in
     let a = b.before.before.before in

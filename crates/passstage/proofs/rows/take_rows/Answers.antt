@@ -5,7 +5,7 @@ use Rattle.factor.specs.Rounding.{rule_by}
 use Rattle.passstage.specs.RowLaws.{turn-permutes, no-turn, turns_next, turns-stop}
 use Rattle.rules.specs.declared.Rule.{Rule}
 use Rattle.passstage.proofs.rows.take_rows.Goals as goal
-use Rattle.passstage.proofs.rows.take_rows.Goals.{Start}
+use Rattle.passstage.proofs.rows.take_rows.Goals.{After-take_row-arg-1, Else-not-take_row, Start, Then-not-take_row}
 
 pub loop-t-init : goal.loop-t-init
 loop-t-init c =

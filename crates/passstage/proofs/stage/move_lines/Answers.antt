@@ -5,7 +5,7 @@ use Rattle.passstage.specs.LaneLaws.{next-line, line-moved}
 use Rattle.passstage.specs.LaneSteps.{line_moved}
 use Rattle.rules.specs.Numbers.{most_order}
 use Rattle.passstage.proofs.stage.move_lines.Goals as goal
-use Rattle.passstage.proofs.stage.move_lines.Goals.{In-loop-l}
+use Rattle.passstage.proofs.stage.move_lines.Goals.{After-move_line, In-loop-l}
 
 -- the line is one of sixteen
 line : (c : In-loop-l → c.before.loop-l.l < most_order

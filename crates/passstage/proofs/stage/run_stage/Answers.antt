@@ -11,7 +11,7 @@ use Rattle.rules.specs.Numbers.{count}
 use Rattle.rules.specs.Sheets.{kind_of}
 use Rattle.rules.specs.declared.Kind.TheVariants.{Permutation}
 use Rattle.passstage.proofs.stage.run_stage.Goals as goal
-use Rattle.passstage.proofs.stage.run_stage.Goals.{Else-is_allowance, Else-is_move, Then-is_allowance, Then-is_move}
+use Rattle.passstage.proofs.stage.run_stage.Goals.{After-allow_lines, After-allow_lines-arg-1, After-move_lines, After-move_lines-arg-1, After-take_rows, After-take_rows-arg-1, Else-is_allowance, Else-is_move, Then-is_allowance, Then-is_move}
 
 -- A permutation and a factor with weights are each the document's stage, line by line (`StageLaws`). One call takes the rows of
 -- both tasks that are no allowances.
@@ -90,8 +90,8 @@ take_rows-requires c =
       s.requires.5,
     )
 
-pub returns-then-is_move : goal.returns
-returns-then-is_move c =
+pub returns : goal.returns
+returns c =
     let c = (goal.at.returns c).After-take_rows in
     let b = c.before.before in
     let t = b.before in

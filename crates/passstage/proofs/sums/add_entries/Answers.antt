@@ -4,7 +4,7 @@ use Rattle.factor.specs.SumBounds.{bounded-le}
 use Rattle.passstage.specs.Parts.{parting-none, parting-next, parting-small}
 use Rattle.whole.specs.Machine.{reads}
 use Rattle.passstage.proofs.sums.add_entries.Goals as goal
-use Rattle.passstage.proofs.sums.add_entries.Goals.{In-loop-j}
+use Rattle.passstage.proofs.sums.add_entries.Goals.{After-add_entry, After-add_entry-arg-in-loop-j-1, In-loop-j, Start}
 
 pub loop-j-init : goal.loop-j-init
 loop-j-init c =

@@ -3,7 +3,7 @@ use Rattle.std.proofs.Common.{◌≡◌, to_z-of_z, w16, w32, to_z, of_z}
 use Rattle.passstage.specs.Parts.{products-small, raised_by}
 use Rattle.whole.specs.Machine.{reads}
 use Rattle.passstage.proofs.sums.add_entry.Goals as goal
-use Rattle.passstage.proofs.sums.add_entry.Goals.{Start}
+use Rattle.passstage.proofs.sums.add_entry.Goals.{After-add_products, After-add_products-arg-1, Start}
 
 entry : (s : Start) → to_z w32 (of_z w32 (to_z w16 (of_z w16 (to_z w32 (of_z w32 s.args.a))))) ≡ s.args.a
 entry s = rw (to_z-of_z s.ranges.a, reads w16 s.requires.2 tt) (to_z-of_z s.ranges.a)

@@ -6,7 +6,7 @@ use Rattle.rules.specs.Numbers.{at}
 use Rattle.whole.specs.Diff.{Within}
 use Rattle.whole.specs.Machine.{fits, reads, within-le, within-+}
 use Rattle.passstage.proofs.sums.add_products.Goals as goal
-use Rattle.passstage.proofs.sums.add_products.Goals.{In-loop-c}
+use Rattle.passstage.proofs.sums.add_products.Goals.{After-v-in-loop-c-3-1, In-loop-c}
 
 room : (i : In-loop-c → i.before.loop-c.c < 16
 room i = let g = i.before.before.requires.0 in let l = i.loop-c-test.true in omega arith

@@ -5,6 +5,7 @@ use Rattle.recipebytes.specs.Filling.{front-is}
 use Rattle.rules.specs.Answers.{checked}
 use Rattle.rules.specs.Recipes.{numbers_of}
 use Rattle.recipe.proofs.reading.check_numbers.Goals as goal
+use Rattle.recipe.proofs.reading.check_numbers.Goals.{After-check}
 
 pub returns : goal.returns
 returns c =

@@ -5,6 +5,7 @@ use Rattle.recipe.specs.Calls.{did_read}
 use Rattle.rules.specs.Calls.{reply, read}
 use Rattle.rules.specs.declared.Answer.{Answer}
 use Rattle.recipe.proofs.reading.read.Goals as goal
+use Rattle.recipe.proofs.reading.read.Goals.{After-decode-arg-1}
 
 pub decode-requires : goal.decode-requires
 unfolding read reply

@@ -2,6 +2,7 @@
 use Rattle.laws.specs.AnswersInTurn.{keeps, fills}
 use Rattle.rules.specs.Calls.{over, built_in, write_table}
 use Rattle.recipe.proofs.table.built_in.Goals as goal
+use Rattle.recipe.proofs.table.built_in.Goals.{After-out-1, Then-answer-ne0}
 
 pub returns-then-answer-ne0 : goal.returns-then-answer-ne0
 unfolding write_table
@@ -11,9 +12,9 @@ returns-then-answer-ne0 c =
     let out = f.before.args.out-1.now in
     keeps (over built_in out) out f.fitting-answer.ensures c.if-answer-ne0.true
 
-pub returns-then-answer-ne0 : goal.returns
+pub returns : goal.returns
 unfolding write_table
-returns-then-answer-ne0 c =
+returns c =
     let c = (goal.at.returns c).After-out-1 in
     let d = c.before in
     let t = d.before.before in

@@ -3,6 +3,7 @@ use Rattle.std.proofs.Common.{arith, pos, w32, to_z-of_z}
 use Rattle.recipebytes.specs.Filling.{over-next}
 use Rattle.rules.specs.Calls.{built_in}
 use Rattle.recipe.proofs.table.copy_table.Goals as goal
+use Rattle.recipe.proofs.table.copy_table.Goals.{After-entry}
 
 pub loop-k-preserved : goal.loop-k-preserved
 loop-k-preserved c =

@@ -1,6 +1,7 @@
 -- The other call answers first; then one number is put back as it was (`specs/Printings.antt`).
 use Rattle.recipe.specs.Printings.{printing-refused, printing-room, printing-filled}
 use Rattle.recipe.proofs.table.first_printing.Goals as goal
+use Rattle.recipe.proofs.table.first_printing.Goals.{After-out-3-1, Then-answer-ne0}
 
 pub returns-then-answer-ne0 : goal.returns-then-answer-ne0
 returns-then-answer-ne0 c =
@@ -14,8 +15,8 @@ bounds-out-27 c =
     let b = c.before.before.before.before in
     printing-room b.before.before.args.out-1.now b.built_in-answer.ensures c.before.if-answer-ne0.false
 
-pub returns-then-answer-ne0 : goal.returns
-returns-then-answer-ne0 c =
+pub returns : goal.returns
+returns c =
     let c = (goal.at.returns c).After-out-3-1 in
     let b = c.before.before.before.before in
     printing-filled b.before.before.args.out-1.now b.built_in-answer.ensures c.before.if-answer-ne0.false

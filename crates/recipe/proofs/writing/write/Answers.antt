@@ -5,6 +5,7 @@ use Rattle.recipe.specs.Trips.{accepted-codables}
 use Rattle.rules.specs.Calls.{reply, write}
 use Rattle.rules.specs.declared.Answer.{Answer}
 use Rattle.recipe.proofs.writing.write.Goals as goal
+use Rattle.recipe.proofs.writing.write.Goals.{After-encode-arg-1}
 
 pub encode-requires : goal.encode-requires
 unfolding write reply

@@ -18,7 +18,7 @@ returns-then-v-lt0 c =
     let c = (goal.at.returns-then-v-lt0 c).After-below in
     sym (is c).code_is
 
-pub returns-then-v-lt0 : goal.returns
-returns-then-v-lt0 c =
+pub returns : goal.returns
+returns c =
     let c = (goal.at.returns c).Else-v-lt0 in
     rw (to_z-of_z c.before.ranges.v) (sym (above c).code_is)

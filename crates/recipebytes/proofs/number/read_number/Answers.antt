@@ -2,6 +2,7 @@
 use Rattle.std.proofs.Common.{sym, ◌∙◌}
 use Rattle.recipebytes.specs.Groups.{third-small, second-small, number_by, number_past}
 use Rattle.recipebytes.proofs.number.read_number.Goals as goal
+use Rattle.recipebytes.proofs.number.read_number.Goals.{After-group, After-group-second, After-group-third, After-none}
 
 pub returns-then-i-bytes : goal.returns-then-i-bytes
 returns-then-i-bytes c =
@@ -18,8 +19,8 @@ group-requires c =
     let c = (goal.at.group-requires c).After-group-second in
     rw (c.group-second.ensures, c.before.group-third.ensures, c.before.before.none-2.ensures) (second-small _ _)
 
-pub returns-then-i-bytes : goal.returns
-returns-then-i-bytes c =
+pub returns : goal.returns
+returns c =
     let c = (goal.at.returns c).After-group in
     rw (
       number_by _ _,

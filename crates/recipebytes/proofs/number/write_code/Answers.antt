@@ -2,6 +2,7 @@
 use Rattle.std.proofs.Common.{◌≡◌, refl, suc, ◌+◌, add-one, arith, length-set}
 use Rattle.recipebytes.specs.Spelling.{spell-1, spell-2, spell-3, spell-least}
 use Rattle.recipebytes.proofs.number.write_code.Goals as goal
+use Rattle.recipebytes.proofs.number.write_code.Goals.{Else-u-lt-GROUP, Else-w-lt-GROUP, Then-u-lt-GROUP, Then-w-lt-GROUP}
 
 pub bounds-out-i : goal.bounds-out-i
 bounds-out-i c =
@@ -41,8 +42,8 @@ bounds-out-i-4 c =
     let e = rw (spell-3 _ c.before.if-u-lt-GROUP.false c.if-w-lt-GROUP.false) at c.before.before.requires.1 in
     rw (length-set, length-set) (omega arith)
 
-pub returns-then-u-lt-GROUP : goal.returns
-returns-then-u-lt-GROUP c =
+pub returns : goal.returns
+returns c =
     let c = (goal.at.returns c).Else-w-lt-GROUP in
     let i = c.before.before.args.i in
     let p : i + 1 ≡ suc i = omega arith in

@@ -3,6 +3,7 @@
 use Rattle.std.proofs.Common.{arith}
 use Rattle.recipebytes.specs.Reading.{decode-on}
 use Rattle.recipebytes.proofs.stream.decode.Goals as goal
+use Rattle.recipebytes.proofs.stream.decode.Goals.{After-out-1}
 
 pub loop-k-preserved : goal.loop-k-preserved
 loop-k-preserved c =

@@ -2,6 +2,7 @@
 use Rattle.std.proofs.Common.{arith}
 use Rattle.recipebytes.specs.Writing.{encode-none, encode-code, encode-fits, encode-on}
 use Rattle.recipebytes.proofs.stream.encode.Goals as goal
+use Rattle.recipebytes.proofs.stream.encode.Goals.{After-code_at, After-slice_known-1, After-slice_known-in-loop-k-1}
 
 pub loop-k-init : goal.loop-k-init
 loop-k-init c =

@@ -3,6 +3,7 @@ use Rattle.std.proofs.Common.{arith}
 use Rattle.recipebytes.specs.Spelling.{spell-most}
 use Rattle.recipebytes.specs.Writing.{size_none, size-on}
 use Rattle.recipebytes.proofs.stream.packed_size.Goals as goal
+use Rattle.recipebytes.proofs.stream.packed_size.Goals.{After-code_size-total, Start}
 
 pub loop-k-init : goal.loop-k-init
 loop-k-init c =

@@ -2,6 +2,7 @@
 use Rattle.std.proofs.Common.{arith}
 use Rattle.recipebytes.specs.Reading.{inside-by}
 use Rattle.recipebytes.proofs.stream.read_into.Goals as goal
+use Rattle.recipebytes.proofs.stream.read_into.Goals.{After-struct_known-1}
 
 pub overflow_add-result : goal.overflow_add-result
 overflow_add-result c =

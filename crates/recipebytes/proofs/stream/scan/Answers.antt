@@ -3,6 +3,7 @@
 use Rattle.std.proofs.Common.{◌≡◌, subst, ℕ, arith, length}
 use Rattle.recipebytes.specs.Reading.{NumbersEnd, scan-on, scan-stop, scan-end, inside-by}
 use Rattle.recipebytes.proofs.stream.scan.Goals as goal
+use Rattle.recipebytes.proofs.stream.scan.Goals.{After-loop-k, After-struct_known-in-loop-k-1, Then-r-eq0}
 
 pub returns-then-r-eq0 : goal.returns-then-r-eq0
 returns-then-r-eq0 c =
@@ -25,8 +26,8 @@ loop-k-preserved c =
     let r = c.before.before.before in
     (omega arith, scan-on r.read_number-r.ensures (omega arith) c.before.if-r-eq0.false r.before.before.loop-k.invariant.1)
 
-pub returns-then-r-eq0 : goal.returns
-returns-then-r-eq0 c =
+pub returns : goal.returns
+returns c =
     let c = (goal.at.returns c).After-loop-k in
     let l = c.before.loop-k in
     let b = c.before.before.before.args.bytes.now in

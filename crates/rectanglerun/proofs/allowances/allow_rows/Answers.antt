@@ -7,7 +7,7 @@ use Rattle.joint.specs.RowsInPlace.{element_of, row_order}
 use Rattle.rectanglerun.specs.RowsInTurn.{no_rows, turn_below, row_more, row-stops, rows_all}
 use Rattle.rectanglerun.specs.UndoingOrder.{nth_row}
 use Rattle.rectanglerun.proofs.allowances.allow_rows.Goals as goal
-use Rattle.rectanglerun.proofs.allowances.allow_rows.Goals.{After-nth_undone-i}
+use Rattle.rectanglerun.proofs.allowances.allow_rows.Goals.{After-allow_row-arg-1, After-loop-s, After-nth_undone-i, Else-not-r, Start, Then-not-r}
 
 pub loop-s-init : goal.loop-s-init
 loop-s-init c =
@@ -53,8 +53,8 @@ loop-s-preserved c =
           through,
     )
 
-pub returns-then-not-r : goal.returns
-returns-then-not-r c =
+pub returns : goal.returns
+returns c =
     let c = (goal.at.returns c).After-loop-s in
     let l = c.before in
     let e : l.loop-s.s ≡ l.before.args.fa.order = omega arith in rows_all e l.loop-s.invariant.1

@@ -2,6 +2,7 @@
 use Rattle.factor.specs.Tasks.{stage-below}
 use Rattle.laws.specs.Accepted.{order-counts}
 use Rattle.rectanglerun.proofs.ends.is_moving.Goals as goal
+use Rattle.rectanglerun.proofs.ends.is_moving.Goals.{After-nth_start-i, Start}
 
 -- The kind of the layout is that of the factor.
 pub count_at-n-requires : goal.count_at-n-requires

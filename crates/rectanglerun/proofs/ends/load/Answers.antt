@@ -6,7 +6,7 @@ use Rattle.rectanglerun.specs.Runs.{size_of, size-most}
 use Rattle.rectanglerun.specs.Turns.{moves_in_turn, all-lent, loads-moved, loads-copied}
 use Rattle.rules.specs.Numbers.{count}
 use Rattle.rectanglerun.proofs.ends.load.Goals as goal
-use Rattle.rectanglerun.proofs.ends.load.Goals.{Start, Then-is_moving, Then-n-gt0}
+use Rattle.rectanglerun.proofs.ends.load.Goals.{After-copy_front, After-copy_front-arg-1, After-move_in_turn, After-move_in_turn-arg-1, Start, Then-is_moving, Then-n-gt0}
 
 -- The copy in with the first stage is `loads-moved`, without it `loads-copied`.
 -- there is a first stage
@@ -57,8 +57,8 @@ copy_front-requires c =
     let c = (goal.at.copy_front-requires c).After-copy_front-arg-1 in
     let s = c.before.before in let h = few s in let l = long s in (omega arith, omega arith)
 
-pub returns-then-is_moving : goal.returns
-returns-then-is_moving c =
+pub returns : goal.returns
+returns c =
     let c = (goal.at.returns c).After-copy_front in
     let s = c.before.before.before in
     loads-copied s.requires.0 s.args.run (few s) s.requires.4 (rw s.requires.5 at c.copy_front.ensures)

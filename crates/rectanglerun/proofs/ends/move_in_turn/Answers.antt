@@ -9,7 +9,7 @@ use Rattle.rectanglerun.specs.Runs.{paired}
 use Rattle.rectanglerun.specs.Turns.{in_turn, column-places, row-places}
 use Rattle.rules.specs.Answers.{start}
 use Rattle.rectanglerun.proofs.ends.move_in_turn.Goals as goal
-use Rattle.rectanglerun.proofs.ends.move_in_turn.Goals.{After-nth_start-j}
+use Rattle.rectanglerun.proofs.ends.move_in_turn.Goals.{After-count_at-n1, After-move_into-arg-1, After-nth_start-i, After-nth_start-j, After-x-1, Start}
 
 -- The places are those of the factors in turn (`column-places`, `row-places`).
 pub count_at-n1-requires : goal.count_at-n1-requires

@@ -5,7 +5,7 @@ use Rattle.rectanglerun.specs.Runs.{size-most}
 use Rattle.rectanglerun.specs.Turns.{stores-moved, stores-copied}
 use Rattle.rules.specs.Numbers.{count}
 use Rattle.rectanglerun.proofs.ends.store.Goals as goal
-use Rattle.rectanglerun.proofs.ends.store.Goals.{Then-t-many}
+use Rattle.rectanglerun.proofs.ends.store.Goals.{After-copy_front-arg-2-1, After-move_in_turn-arg-then-t-many-1, After-y-1, After-y-2-1, Start, Then-t-many}
 
 -- The copy out with the last stage is `stores-moved`, after it `stores-copied`.
 pub count_at-many-requires : goal.count_at-many-requires
@@ -48,8 +48,8 @@ copy_front-requires c =
     let s = c.before.before.before.before in
     let p = s.requires in omega (arith, p.4, p.5, size-most p.0)
 
-pub returns-then-t-many : goal.returns
-returns-then-t-many c =
+pub returns : goal.returns
+returns c =
     let c = (goal.at.returns c).After-y-2-1 in
     let e = c.before.before.before.before in
     let s = e.before.before in

@@ -12,7 +12,7 @@ use Rattle.rules.specs.Factors.{factor_at}
 use Rattle.rules.specs.Numbers.{count}
 use Rattle.rules.specs.Shapes.{joint_stage}
 use Rattle.rectanglerun.proofs.runs.run_stages.Goals as goal
-use Rattle.rectanglerun.proofs.runs.run_stages.Goals.{After-nth_start-j, After-run_stage-r, At-loop-t, In-loop-t, Start}
+use Rattle.rectanglerun.proofs.runs.run_stages.Goals.{After-loop-t, After-nth_start-i, After-nth_start-j, After-run_stage-arg-1, After-run_stage-r, At-loop-t, Else-not-r, In-loop-t, Start, Then-not-r}
 
 -- where the function began
 abbrev S : At-loop-t → Start
@@ -99,8 +99,8 @@ loop-t-preserved c =
       r.run_stage-r.ensures.1,
     )
 
-pub returns-then-not-r : goal.returns
-returns-then-not-r c =
+pub returns : goal.returns
+returns c =
     let c = (goal.at.returns c).After-loop-t in
     let l = c.before in
     let e : l.loop-t.t ≡ (S l).args.to = omega (arith, l.loop-t.invariant.0) in

@@ -8,7 +8,7 @@ use Rattle.rectanglerun.specs.RowsInTurn.{turn_below, still, asks, turns_more, t
 use Rattle.rectanglerun.specs.UndoingOrder.{nth_row, single-applied}
 use Rattle.singlerows.specs.SingleRowsInPlace.{early-undone}
 use Rattle.rectanglerun.proofs.singles.apply_rows_beside.Goals as goal
-use Rattle.rectanglerun.proofs.singles.apply_rows_beside.Goals.{After-nth_single-i}
+use Rattle.rectanglerun.proofs.singles.apply_rows_beside.Goals.{After-apply_beside-arg-1, After-nth_single-i, Else-not-r, Then-not-r}
 
 -- the row of this turn, which is not row r
 turn : (c : After-nth_single-i →

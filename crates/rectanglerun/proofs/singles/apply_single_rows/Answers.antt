@@ -9,7 +9,7 @@ use Rattle.rectanglerun.specs.RowsInTurn.{Rows, no_rows, row_more, row-stops, tu
 use Rattle.rectanglerun.specs.UndoingOrder.{nth_row, first-applied}
 use Rattle.singlerows.specs.SingleRows.{one-row}
 use Rattle.rectanglerun.proofs.singles.apply_single_rows.Goals as goal
-use Rattle.rectanglerun.proofs.singles.apply_single_rows.Goals.{Else-not-r, Start}
+use Rattle.rectanglerun.proofs.singles.apply_single_rows.Goals.{After-apply_all_beside, After-apply_crossing-arg-1, Else-not-r, Start, Then-not-r}
 
 pub apply_crossing-r-requires : goal.apply_crossing-r-requires
 unfolding limit_of
@@ -45,8 +45,8 @@ first c =
     let s = r.before.before.before.before in
     let h = s.requires.0 in row_more h (some s) (no_rows h) (turn s) r.apply_crossing-r.ensures (not-false _ c.if-not-r.false)
 
-pub returns-then-not-r : goal.returns
-returns-then-not-r c =
+pub returns : goal.returns
+returns c =
     let c = (goal.at.returns c).After-apply_all_beside in
     let e = c.before.before.before.before in
     let s = e.before.before.before.before.before.before in

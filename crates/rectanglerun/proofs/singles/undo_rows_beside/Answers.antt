@@ -8,7 +8,7 @@ use Rattle.rectanglerun.specs.RowsInTurn.{turn_below, still, asks, turns_more, t
 use Rattle.rectanglerun.specs.UndoingOrder.{nth_row, single-undone}
 use Rattle.singlerows.specs.SingleRowsInPlace.{early-undone}
 use Rattle.rectanglerun.proofs.singles.undo_rows_beside.Goals as goal
-use Rattle.rectanglerun.proofs.singles.undo_rows_beside.Goals.{After-nth_single-i, In-loop-s}
+use Rattle.rectanglerun.proofs.singles.undo_rows_beside.Goals.{After-nth_single-i, After-undo_beside-arg-1, Else-not-r, In-loop-s, Then-not-r}
 
 -- the turn is not the last
 early : (c : In-loop-s → c.before.loop-s.s < c.before.before.args.fa.order - 1

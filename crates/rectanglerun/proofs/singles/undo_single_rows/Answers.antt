@@ -8,7 +8,7 @@ use Rattle.joint.specs.RowsInPlace.{element_of, row_order}
 use Rattle.rectanglerun.specs.RowsInTurn.{Rows, no_rows, row_last}
 use Rattle.rectanglerun.specs.UndoingOrder.{last-row-undone}
 use Rattle.rectanglerun.proofs.singles.undo_single_rows.Goals as goal
-use Rattle.rectanglerun.proofs.singles.undo_single_rows.Goals.{Else-not-r}
+use Rattle.rectanglerun.proofs.singles.undo_single_rows.Goals.{After-undo_crossing, After-undo_crossing-arg-1, Else-not-r, Then-not-r}
 
 pub returns-then-not-r : goal.returns-then-not-r
 returns-then-not-r c =
@@ -36,9 +36,9 @@ undo_crossing-requires c =
     let h = c.before.before.before.before.before.before.before.before.before.requires.0 in
     (h.column, h.row, h.low1, h.low2, a.small, a.long)
 
-pub returns-then-not-r : goal.returns
+pub returns : goal.returns
 unfolding limit_of element_of row_order
-returns-then-not-r c =
+returns c =
     let c = (goal.at.returns c).After-undo_crossing in
     let e = c.before.before in
     let s = e.before.before.before.before.before.before.before.before in

@@ -16,7 +16,7 @@ use Rattle.rules.specs.Shapes.{joint_stage}
 use Rattle.rules.specs.Sheets.{kind_of}
 use Rattle.rules.specs.declared.Kind.TheVariants.{Permutation}
 use Rattle.rectanglerun.proofs.stages.run_stage.Goals as goal
-use Rattle.rectanglerun.proofs.stages.run_stage.Goals.{After-is_even-even, After-layout_at-fb, Else-is_move, Start, Then-is_move}
+use Rattle.rectanglerun.proofs.stages.run_stage.Goals.{After-allow_rows, After-allow_rows-arg-1, After-apply_lower_rows, After-apply_lower_rows-arg-1, After-apply_single_rows, After-apply_single_rows-arg-1, After-apply_upper_rows, After-apply_upper_rows-arg-1, After-is_even-even, After-layout_at-fb, After-move_pair, After-move_pair-arg-1, After-undo_lower_rows, After-undo_lower_rows-arg-1, After-undo_single_rows, After-undo_single_rows-arg-1, After-undo_upper_rows, After-undo_upper_rows-arg-1, Else-is_move, In-Permutation, In-Permutation-kind, Start, Then-is_move}
 
 -- ---- a pair of permutations
 permutes : (c : Then-is_move) → let s = c.before.before.before.before in
@@ -48,7 +48,7 @@ returns-then-is_move c =
       ap length (e ∙ moved-scattered _ _ _ x) ∙ length-scattered _ _ _ x ∙ s.requires.2,
     )
 
-module _ (w : After-is_even-even) where
+    module _ (w : After-is_even-even) where
   abbrev e : Else-is_move
   e = w.before.before
 

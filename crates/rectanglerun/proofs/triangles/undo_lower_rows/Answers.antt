@@ -7,7 +7,7 @@ use Rattle.joint.specs.RowsInPlace.{element_of, row_order}
 use Rattle.rectanglerun.specs.RowsInTurn.{no_rows, row_more, row-stops, rows_all}
 use Rattle.rectanglerun.specs.UndoingOrder.{nth_row, lower-undone}
 use Rattle.rectanglerun.proofs.triangles.undo_lower_rows.Goals as goal
-use Rattle.rectanglerun.proofs.triangles.undo_lower_rows.Goals.{In-loop-s}
+use Rattle.rectanglerun.proofs.triangles.undo_lower_rows.Goals.{After-loop-s, Else-not-r, In-loop-s, Start, Then-not-r}
 
 pub loop-s-init : goal.loop-s-init
 loop-s-init c =
@@ -40,8 +40,8 @@ loop-s-preserved c =
           r.undo_lower_row-r.ensures (not-false _ c.if-not-r.false),
     )
 
-pub returns-then-not-r : goal.returns
-returns-then-not-r c =
+pub returns : goal.returns
+returns c =
     let c = (goal.at.returns c).After-loop-s in
     let l = c.before in
     let e : l.loop-s.s ≡ l.before.args.fa.order = omega arith in rows_all e l.loop-s.invariant.1

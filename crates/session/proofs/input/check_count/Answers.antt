@@ -5,7 +5,7 @@ use Rattle.laws.specs.Tests.{non_neg-yes}
 use Rattle.rules.specs.Numbers.{at}
 use Rattle.session.specs.Inputs.{counts-below, counts-beyond, counts-fine}
 use Rattle.session.proofs.input.check_count.Goals as goal
-use Rattle.session.proofs.input.check_count.Goals.{Else-first-lt0}
+use Rattle.session.proofs.input.check_count.Goals.{After-accepted, After-refused, After-refused-then-block_at-v, Else-first-lt0}
 
 -- The three answers of the definition.
 natural : (c : Else-first-lt0) → T (non_neg (at c.before.before.args.v.now 0))
@@ -28,8 +28,8 @@ returns-then-block_at-v c =
     let v = b.before.before.before.args.v.now in
     c.refused-then-block_at-v.ensures ∙ sym (counts-beyond v (natural b.before) (omega (arith, b.block_at.ensures)))
 
-pub returns-then-first-lt0 : goal.returns
-returns-then-first-lt0 c =
+pub returns : goal.returns
+returns c =
     let c = (goal.at.returns c).After-accepted in
     let b = c.before.before in
     let v = b.before.before.before.args.v.now in

@@ -5,6 +5,7 @@ use Rattle.laws.specs.AnswersInTurn.{answer-stops, answer-passes, in-turn}
 use Rattle.rules.specs.Answers.{pair_checked}
 use Rattle.rules.specs.declared.Answer.{Answer}
 use Rattle.sheetcheck.proofs.checks.check_pair_starts.Goals as goal
+use Rattle.sheetcheck.proofs.checks.check_pair_starts.Goals.{After-check_match, Else-a-ne0, Then-a-ne0}
 
 pub returns-then-a-ne0 : goal.returns-then-a-ne0
 unfolding pair_checked
@@ -24,9 +25,9 @@ check_match-requires c =
     let s = d.1 o.if-a-ne0.false in
     (a.0, a.1, s.0, s.1)
 
-pub returns-then-a-ne0 : goal.returns
+pub returns : goal.returns
 unfolding pair_checked
-returns-then-a-ne0 c =
+returns c =
     let c = (goal.at.returns c).After-check_match in
     let o = c.before.before.before in
     let d = o.before.before.check_two_starts-a.ensures in (

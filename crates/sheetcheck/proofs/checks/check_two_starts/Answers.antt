@@ -6,6 +6,7 @@ use Rattle.rules.specs.Sheets.{reading}
 use Rattle.rules.specs.declared.Answer.{Answer}
 use Rattle.sheetcheck.proofs.Readings.{no-fault}
 use Rattle.sheetcheck.proofs.checks.check_two_starts.Goals as goal
+use Rattle.sheetcheck.proofs.checks.check_two_starts.Goals.{After-answer_of, After-answer_of-2}
 
 -- The first answer that is a refusal: column sheet, then row sheet. Assumes nothing.
 -- both sheets, where 0 is answered
@@ -21,8 +22,8 @@ returns-then-c-ne0 c =
     let a = answer-stops 0 _ d.read_starts-c.ensures.0 t.if-c-ne0.true c.answer_of.ensures in
     (a, λ z. absurd (t.if-c-ne0.true (no-fault (both _ _ a z).0 d.read_starts-c.ensures.0)))
 
-pub returns-then-c-ne0 : goal.returns
-returns-then-c-ne0 c =
+pub returns : goal.returns
+returns c =
     let c = (goal.at.returns c).After-answer_of-2 in
     let e = c.before in
     let o = e.before.before in

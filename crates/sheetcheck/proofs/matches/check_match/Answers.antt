@@ -1,6 +1,7 @@
 -- The clash is compared with both counts, as in the definition. Assumes nothing.
 use Rattle.laws.specs.Accepted.{count-counts}
 use Rattle.sheetcheck.proofs.matches.check_match.Goals as goal
+use Rattle.sheetcheck.proofs.matches.check_match.Goals.{After-count_at-a, Start}
 
 -- The clash is compared with both counts, as in the definition. Assumes nothing.
 pub count_at-a-requires : goal.count_at-a-requires

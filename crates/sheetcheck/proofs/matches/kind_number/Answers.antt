@@ -3,7 +3,7 @@ use Rattle.std.proofs.Common.{◌≡◌, ◌<◌, arith, get_or}
 use Rattle.laws.specs.Accepted.{accepted-count, kind-counts}
 use Rattle.rules.specs.Answers.{start}
 use Rattle.sheetcheck.proofs.matches.kind_number.Goals as goal
-use Rattle.sheetcheck.proofs.matches.kind_number.Goals.{Start}
+use Rattle.sheetcheck.proofs.matches.kind_number.Goals.{After-count_at-arg-1, After-way_told-1, Start}
 
 -- The table's entry is where the factor starts. Assumes nothing.
 short : (c : Start) → c.args.f < 32

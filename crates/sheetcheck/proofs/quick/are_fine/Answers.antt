@@ -2,7 +2,7 @@
 use Rattle.std.proofs.Common.{eqb-true, ◌≡◌, ◌≤◌, arith}
 use Rattle.sheetcheck.proofs.Rows.{fault-most, fine_more, saw-all}
 use Rattle.sheetcheck.proofs.quick.are_fine.Goals as goal
-use Rattle.sheetcheck.proofs.quick.are_fine.Goals.{After-fault_of-faults}
+use Rattle.sheetcheck.proofs.quick.are_fine.Goals.{After-fault_of-faults, After-loop-k}
 
 -- the fault of this turn
 small : (c : After-fault_of-faults → c.fault_of-faults.result ≤ 8

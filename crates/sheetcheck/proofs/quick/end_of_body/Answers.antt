@@ -2,6 +2,7 @@
 use Rattle.std.proofs.Common.{arith}
 use Rattle.laws.specs.Tests.{triangle-most}
 use Rattle.sheetcheck.proofs.quick.end_of_body.Goals as goal
+use Rattle.sheetcheck.proofs.quick.end_of_body.Goals.{After-triangle_of, After-triangle_of-in-Upper}
 
 pub end_of_weights-requires : goal.end_of_weights-requires
 end_of_weights-requires c =

@@ -4,6 +4,7 @@ use Rattle.laws.specs.Readers.{seen}
 use Rattle.rules.specs.Sheets.{factor}
 use Rattle.sheetcheck.specs.Quick.{ends-then}
 use Rattle.sheetcheck.proofs.quick.end_of_factor.Goals as goal
+use Rattle.sheetcheck.proofs.quick.end_of_factor.Goals.{After-end_of_body, After-end_of_body_of_four, Else-p-eq0}
 
 pub kind_at-kind-requires : goal.kind_at-kind-requires
 kind_at-kind-requires c =

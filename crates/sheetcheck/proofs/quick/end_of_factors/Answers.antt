@@ -5,7 +5,7 @@ use Rattle.laws.specs.Accepted.{order-ranged, count-ranged}
 use Rattle.rules.specs.Numbers.{count}
 use Rattle.sheetread.specs.Starts.{none-met, one_more, place-low}
 use Rattle.sheetcheck.proofs.quick.end_of_factors.Goals as goal
-use Rattle.sheetcheck.proofs.quick.end_of_factors.Goals.{In-loop-f}
+use Rattle.sheetcheck.proofs.quick.end_of_factors.Goals.{After-count_at-many, After-count_at-n, After-way_told-1, Else-i-eq0, In-loop-f, Start}
 
 pub count_at-n-requires : goal.count_at-n-requires
 count_at-n-requires c =
@@ -26,7 +26,7 @@ loop-f-init c =
   c.count_at-many.ensures,
   c.before.before.requires.1,
   none-met,
-)
+    )
 
 -- the table has room
 few : (c : In-loop-f → c.before.loop-f.f < 32

@@ -5,6 +5,7 @@ use Rattle.rules.specs.Sheets.{head}
 use Rattle.rules.specs.declared.Mark.{Mark}
 use Rattle.sheetcheck.specs.Quick.{ends-then}
 use Rattle.sheetcheck.proofs.quick.end_of_head.Goals as goal
+use Rattle.sheetcheck.proofs.quick.end_of_head.Goals.{After-end_of_one}
 
 pub returns : goal.returns
 unfolding head

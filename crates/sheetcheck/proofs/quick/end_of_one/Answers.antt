@@ -2,6 +2,7 @@
 use Rattle.std.proofs.Common.{sym, ◌∙◌, arith}
 use Rattle.laws.specs.Readers.{one-fine}
 use Rattle.sheetcheck.proofs.quick.end_of_one.Goals as goal
+use Rattle.sheetcheck.proofs.quick.end_of_one.Goals.{Else-fault_of-ne0}
 
 pub returns : goal.returns
 returns c =

@@ -6,7 +6,7 @@ use Rattle.rules.specs.declared.Item.TheVariants.{Row}
 use Rattle.sheetcheck.proofs.Marks.{marked_more}
 use Rattle.sheetcheck.proofs.Rows.{saw-all}
 use Rattle.sheetcheck.proofs.quick.end_of_places.Goals as goal
-use Rattle.sheetcheck.proofs.quick.end_of_places.Goals.{After-count_at-place, Else-fault_of-ne0}
+use Rattle.sheetcheck.proofs.quick.end_of_places.Goals.{After-count_at-place, After-loop-k, Else-fault_of-ne0, Else-used-place}
 
 -- a number of 0 to n - 1
 row :

@@ -1,6 +1,7 @@
 -- The row, then the weights from where it ends. Assumes nothing.
 use Rattle.sheetcheck.specs.Quick.{ends-then}
 use Rattle.sheetcheck.proofs.quick.end_of_single.Goals as goal
+use Rattle.sheetcheck.proofs.quick.end_of_single.Goals.{After-end_of_weights}
 
 pub returns : goal.returns
 returns c =

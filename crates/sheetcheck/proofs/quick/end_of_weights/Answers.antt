@@ -3,6 +3,7 @@ use borrow.Author.Tests.{not-false}
 use Rattle.laws.specs.Readers.{then-goes}
 use Rattle.rules.specs.Sheets.{weights}
 use Rattle.sheetcheck.proofs.quick.end_of_weights.Goals as goal
+use Rattle.sheetcheck.proofs.quick.end_of_weights.Goals.{Then-are_fine}
 
 pub returns-then-are_fine : goal.returns-then-are_fine
 unfolding weights

@@ -8,7 +8,7 @@ use Rattle.rules.specs.Numbers.{count}
 use Rattle.rules.specs.Sheets.{on, stop, factor}
 use Rattle.sheetread.specs.Starts.{none-met, one_more, place-low}
 use Rattle.sheetread.proofs.readers.read_factors.Goals as goal
-use Rattle.sheetread.proofs.readers.read_factors.Goals.{After-read_factor-r, In-loop-f}
+use Rattle.sheetread.proofs.readers.read_factors.Goals.{After-count_at-many, After-count_at-n, After-loop-f, After-read_factor-r, After-way_told-1, Else-r-ne0, In-loop-f, Start, Then-r-ne0}
 
 pub count_at-n-requires : goal.count_at-n-requires
 count_at-n-requires c =
@@ -30,7 +30,7 @@ loop-f-init c =
   c.before.before.requires.1,
   none-met,
   rw sub-zero,
-)
+    )
 
 -- the table has room
 few : (c : In-loop-f → c.before.loop-f.f < 32
@@ -94,8 +94,8 @@ loop-f-preserved c =
       l.invariant.5 ∙ on-turn _ l.f _ l.i (among i) (here r) c.if-r-ne0.false,
     )
 
-pub returns-then-r-ne0 : goal.returns
-returns-then-r-ne0 c =
+pub returns : goal.returns
+returns c =
     let c = (goal.at.returns c).After-loop-f in
     let l = c.before.loop-f in
     let s = c.before.before.before.before in

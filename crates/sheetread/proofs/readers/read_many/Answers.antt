@@ -3,6 +3,7 @@ use Rattle.std.proofs.Common.{sym, ◌∙◌, arith}
 use Rattle.laws.specs.Readers.{times_none, on-turn, stop-turn}
 use Rattle.rules.specs.Sheets.{one}
 use Rattle.sheetread.proofs.readers.read_many.Goals as goal
+use Rattle.sheetread.proofs.readers.read_many.Goals.{After-loop-k, Else-r-ne0, Then-r-ne0}
 
 pub returns-then-r-ne0 : goal.returns-then-r-ne0
 returns-then-r-ne0 c =
@@ -20,8 +21,8 @@ loop-k-preserved c =
     let r = c.before.before.read_one-r.ensures in
     l.invariant ∙ on-turn a.m l.k (one a.sheet.now a.what) l.i (omega arith) r c.if-r-ne0.false
 
-pub returns-then-r-ne0 : goal.returns
-returns-then-r-ne0 c =
+pub returns : goal.returns
+returns c =
     let c = (goal.at.returns c).After-loop-k in
     let l = c.before.loop-k in
     let a = c.before.before.args in

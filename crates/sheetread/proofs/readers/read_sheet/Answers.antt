@@ -6,7 +6,7 @@ use Rattle.rules.specs.Numbers.{count}
 use Rattle.rules.specs.Sheets.{on, ◌then◌, times, factor, head, reading}
 use Rattle.rules.specs.declared.Mark.{Mark}
 use Rattle.sheetread.proofs.readers.read_sheet.Goals as goal
-use Rattle.sheetread.proofs.readers.read_sheet.Goals.{After-read_factors-r}
+use Rattle.sheetread.proofs.readers.read_sheet.Goals.{After-read_end, After-read_factors-arg-1, After-read_factors-r, Then-h-ne0, Then-r-ne0}
 
 -- The head; if it has no fault the factors; then the end. Assumes nothing.
 headed-by : {s : List ℤ} {r : Mark} → r ≡ head s → r.number ≡ 0 → Headed s
@@ -41,9 +41,9 @@ returns-then-r-ne0 c =
     let c = (goal.at.returns-then-r-ne0 c).Then-r-ne0 in
     (stops _ (read c.before.before) c.if-r-ne0.true, λ z. absurd (c.if-r-ne0.true z))
 
-pub returns-then-h-ne0 : goal.returns
+pub returns : goal.returns
 unfolding reading
-returns-then-h-ne0 c =
+returns c =
     let c = (goal.at.returns c).After-read_end in
     let t = c.before in
     let f = t.before.before in

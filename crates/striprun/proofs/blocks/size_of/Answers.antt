@@ -6,7 +6,7 @@ use Rattle.rules.specs.Answers.{checked, pair_checked}
 use Rattle.rules.specs.Calls.{line, joint}
 use Rattle.striprun.specs.Plans.{plan_of}
 use Rattle.striprun.proofs.blocks.size_of.Goals as goal
-use Rattle.striprun.proofs.blocks.size_of.Goals.{In-Joint, In-Line}
+use Rattle.striprun.proofs.blocks.size_of.Goals.{After-count_at-in-Joint, After-count_at-in-Joint-2, In-Joint, In-Line}
 
 -- The orders of checked sheets.
 -- the sheets were checked

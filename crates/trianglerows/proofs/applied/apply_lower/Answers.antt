@@ -13,7 +13,7 @@ use Rattle.rules.specs.Numbers.{bound, at}
 use Rattle.whole.specs.Diff.{Within}
 use Rattle.whole.specs.Machine.{fits, reads, back}
 use Rattle.trianglerows.proofs.applied.apply_lower.Goals as goal
-use Rattle.trianglerows.proofs.applied.apply_lower.Goals.{After-applied_whole-z, After-before_lower, After-lower_total-s, After-sign_at, Else-not-is_within, In-loop-j, Start}
+use Rattle.trianglerows.proofs.applied.apply_lower.Goals.{After-applied_whole-arg-1, After-applied_whole-z, After-before_lower, After-loop-j, After-lower_total-s, After-sign_at, Else-not-is_within, In-loop-j, Start, Then-not-is_within}
 
 -- what the run was lent
 abbrev S : In-loop-j → Start
@@ -131,8 +131,8 @@ loop-j-preserved c =
       ap (λ (z : ℕ). z + l.j) l.inv.4 ∙ lower-next s.args.f l.j s.pre.1,
     )
 
-pub returns-then-not-is_within : goal.returns
-returns-then-not-is_within c =
+pub returns : goal.returns
+returns c =
     let c = (goal.at.returns c).After-loop-j in
     let s = c.before.before.before in
     let l = c.before.loop-j in

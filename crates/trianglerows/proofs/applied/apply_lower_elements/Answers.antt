@@ -3,6 +3,7 @@ use Rattle.std.proofs.Common.{refl, arith, to_z-of_z}
 use borrow.Author.Tests.{not-false}
 use Rattle.joint.specs.RowsInPlace.{run-all, run-both}
 use Rattle.trianglerows.proofs.applied.apply_lower_elements.Goals as goal
+use Rattle.trianglerows.proofs.applied.apply_lower_elements.Goals.{After-apply_lower-then-is_written-2}
 
 pub returns-then-is_written-2 : goal.returns-then-is_written-2
 returns-then-is_written-2 c =

@@ -6,7 +6,7 @@ use Rattle.joint.specs.RowsInPlace.{run-all}
 use Rattle.joint.specs.Triangles.{asks-run, run_row}
 use Rattle.whole.specs.Machine.{back}
 use Rattle.trianglerows.proofs.applied.apply_lower_four.Goals as goal
-use Rattle.trianglerows.proofs.applied.apply_lower_four.Goals.{After-sign_at-d}
+use Rattle.trianglerows.proofs.applied.apply_lower_four.Goals.{After-apply_lower, After-apply_lower-2, After-apply_lower-arg-1, After-apply_lower-arg-2-1, After-sign_at-d}
 
 sign : (c : After-sign_at-d) →
     let s = c.before in
@@ -48,8 +48,8 @@ apply_lower-requires-2 c =
       omega (arith, s.requires.2),
     )
 
-pub returns-then-even : goal.returns
-returns-then-even c =
+pub returns : goal.returns
+returns c =
     let c = (goal.at.returns c).After-apply_lower-2 in
     let t = c.before.before.before in
     let a = t.before in

@@ -6,7 +6,7 @@ use Rattle.joint.specs.RowsInPlace.{run-all}
 use Rattle.joint.specs.Triangles.{asks-run, run_row}
 use Rattle.whole.specs.Machine.{back}
 use Rattle.trianglerows.proofs.applied.apply_upper_four.Goals as goal
-use Rattle.trianglerows.proofs.applied.apply_upper_four.Goals.{After-sign_at-d}
+use Rattle.trianglerows.proofs.applied.apply_upper_four.Goals.{After-apply_upper, After-apply_upper-2, After-apply_upper-arg-1, After-apply_upper-arg-2-1, After-sign_at-d}
 
 sign : (c : After-sign_at-d) →
     let s = c.before in
@@ -50,8 +50,8 @@ apply_upper-requires-2 c =
       omega (arith, s.requires.2),
     )
 
-pub returns-then-even : goal.returns
-returns-then-even c =
+pub returns : goal.returns
+returns c =
     let c = (goal.at.returns c).After-apply_upper-2 in
     let t = c.before.before.before in
     let a = t.before in

@@ -5,7 +5,7 @@ use Rattle.joint.specs.Elements.{sign_at}
 use Rattle.joint.specs.Triangles.{asks-run, run_row}
 use Rattle.whole.specs.Machine.{back}
 use Rattle.trianglerows.proofs.applied.apply_upper_row.Goals as goal
-use Rattle.trianglerows.proofs.applied.apply_upper_row.Goals.{After-sign_at-d}
+use Rattle.trianglerows.proofs.applied.apply_upper_row.Goals.{After-apply_upper_elements, After-apply_upper_elements-arg-1, After-sign_at-d}
 
 sign : (c : After-sign_at-d) →
     let s = c.before.before in

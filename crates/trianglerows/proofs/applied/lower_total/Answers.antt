@@ -8,7 +8,7 @@ use Rattle.rules.specs.Numbers.{at}
 use Rattle.whole.specs.Diff.{Within}
 use Rattle.whole.specs.Machine.{reads, back, within-le}
 use Rattle.trianglerows.proofs.applied.lower_total.Goals as goal
-use Rattle.trianglerows.proofs.applied.lower_total.Goals.{After-sign_at, After-wide_sum, Start}
+use Rattle.trianglerows.proofs.applied.lower_total.Goals.{After-sign_at, After-wide_sum, After-with_diagonal, After-with_diagonal-arg-1, Start}
 
 -- One run of entries is all of them (`lower-entries`).
 -- the entries of the row, and the sums that they meet

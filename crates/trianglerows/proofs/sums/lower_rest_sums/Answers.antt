@@ -3,7 +3,7 @@ use Rattle.std.proofs.Common.{◌≡◌, ◌∙◌, ◌+◌, arith}
 use Rattle.factor.specs.Layouts.{row_of}
 use Rattle.joint.specs.Triangles.{lower-at, lower-side, lower-rest}
 use Rattle.trianglerows.proofs.sums.lower_rest_sums.Goals as goal
-use Rattle.trianglerows.proofs.sums.lower_rest_sums.Goals.{After-before_lower}
+use Rattle.trianglerows.proofs.sums.lower_rest_sums.Goals.{After-before_lower, After-side_sums, After-side_sums-arg-1}
 
 -- where the entries of the row start
 place : (c : After-before_lower) →

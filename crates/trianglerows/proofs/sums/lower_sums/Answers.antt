@@ -6,7 +6,7 @@ use Rattle.joint.specs.RowsInPlace.{row_room}
 use Rattle.joint.specs.Triangles.{lower-at, lower-side, lower-rest, with-own}
 use Rattle.whole.specs.Machine.{back}
 use Rattle.trianglerows.proofs.sums.lower_sums.Goals as goal
-use Rattle.trianglerows.proofs.sums.lower_sums.Goals.{After-before_lower, After-diagonal_of, After-sign_at, Start}
+use Rattle.trianglerows.proofs.sums.lower_sums.Goals.{After-before_lower, After-diagonal_of, After-side_sums_with, After-side_sums_with-arg-1, After-sign_at, Start}
 
 -- The entries of the row are as the sums ask (`lower-side`). With the row's own numbers they make its sums (`with-own`).
 -- the row lies in the block

@@ -4,7 +4,7 @@ use Rattle.factor.specs.Layouts.{row_of}
 use Rattle.joint.specs.RowsInPlace.{row_room}
 use Rattle.joint.specs.Triangles.{upper-at, upper-side, upper-rest}
 use Rattle.trianglerows.proofs.sums.upper_rest_sums.Goals as goal
-use Rattle.trianglerows.proofs.sums.upper_rest_sums.Goals.{After-before_upper, Start}
+use Rattle.trianglerows.proofs.sums.upper_rest_sums.Goals.{After-before_upper, After-side_sums, After-side_sums-arg-1, Start}
 
 -- The entries of the row are as the sums ask (`upper-side`), and there are no others (`upper-rest`).
 -- the row lies in the block

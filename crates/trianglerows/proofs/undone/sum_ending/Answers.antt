@@ -7,7 +7,7 @@ use Rattle.whole.specs.Diff.{lia, Within}
 use Rattle.whole.specs.Machine.{fits, reads, back, within-+, within-*}
 use Rattle.whole.specs.Stated.{sum}
 use Rattle.trianglerows.proofs.undone.sum_ending.Goals as goal
-use Rattle.trianglerows.proofs.undone.sum_ending.Goals.{After-wide_sum, Else-m-eq0, Start}
+use Rattle.trianglerows.proofs.undone.sum_ending.Goals.{After-wide_sum, After-with_sum, After-with_sum-arg-1, Else-m-eq0, Start}
 
 -- all but the last
 fewer : (c : Else-m-eq0) → let a = c.before.args in Wide a.a.now a.p a.v.now 0 (a.m - 1)

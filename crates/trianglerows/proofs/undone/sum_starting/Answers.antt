@@ -8,7 +8,7 @@ use Rattle.whole.specs.Machine.{fits, reads, back, within-+, within-*}
 use Rattle.whole.specs.Stated.{sum}
 use Rattle.whole.specs.Sum.{sum-cong}
 use Rattle.trianglerows.proofs.undone.sum_starting.Goals as goal
-use Rattle.trianglerows.proofs.undone.sum_starting.Goals.{After-wide_sum, Else-m-eq0, Start}
+use Rattle.trianglerows.proofs.undone.sum_starting.Goals.{After-wide_sum, After-with_sum, After-with_sum-arg-1, Else-m-eq0, Start}
 
 -- all but the first
 fewer : (c : Else-m-eq0) → let a = c.before.args in Wide a.a.now (a.p + 1) a.v.now (a.k + 1) (a.m - 1)

@@ -14,7 +14,7 @@ use Rattle.trianglerows.specs.TrianglesUndone.{recent-next, lower-turn, undoing-
 use Rattle.whole.specs.Diff.{Within}
 use Rattle.whole.specs.Machine.{reads, back, within-le}
 use Rattle.trianglerows.proofs.undone.undo_lower.Goals as goal
-use Rattle.trianglerows.proofs.undone.undo_lower.Goals.{After-before_lower, After-lower_total-s, After-sign_at, After-sign_at-d, After-undone_whole-z, After-with_diagonal-last, Else-not-is_within, In-loop-j, Start}
+use Rattle.trianglerows.proofs.undone.undo_lower.Goals.{After-before_lower, After-left_of-last, After-loop-j, After-lower_total-s, After-sign_at, After-sign_at-d, After-undone_whole-arg-1, After-undone_whole-z, After-with_diagonal-arg-1, After-with_diagonal-last, Else-not-is_within, In-loop-j, Start, Then-not-is_within}
 
 -- what the run was lent
 abbrev S : In-loop-j → Start
@@ -176,8 +176,8 @@ loop-j-preserved c =
           ∙ set_at l.v l.j (G i) (omega (arith, column i, l.invariant.1.recovered.long)))),
     )
 
-pub returns-then-not-is_within : goal.returns
-returns-then-not-is_within c =
+pub returns : goal.returns
+returns c =
     let c = (goal.at.returns c).After-loop-j in
     let s = c.before.before.before.before.before in
     let l = c.before.loop-j in

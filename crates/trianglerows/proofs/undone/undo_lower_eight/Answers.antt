@@ -3,6 +3,7 @@ use Rattle.std.proofs.Common.{sym, arith}
 use borrow.Author.Tests.{not-false}
 use Rattle.trianglerows.specs.TrianglesUndone.{undo-start, undone-none, undone-more, undone-all}
 use Rattle.trianglerows.proofs.undone.undo_lower_eight.Goals as goal
+use Rattle.trianglerows.proofs.undone.undo_lower_eight.Goals.{After-undo_lower, After-undo_lower-arg-1}
 
 pub undo_lower-a-requires : goal.undo_lower-a-requires
 undo_lower-a-requires c =

@@ -3,6 +3,7 @@ use Rattle.std.proofs.Common.{arith}
 use borrow.Author.Tests.{not-true, not-false}
 use Rattle.trianglerows.specs.TrianglesUndone.{undone-none, undone-more, undone-stops, undone-all}
 use Rattle.trianglerows.proofs.undone.undo_lower_elements.Goals as goal
+use Rattle.trianglerows.proofs.undone.undo_lower_elements.Goals.{After-undo_lower, Then-not-b, Then-not-c}
 
 pub returns-then-not-b : goal.returns-then-not-b
 returns-then-not-b c =

@@ -2,6 +2,7 @@
 use Rattle.std.proofs.Common.{sym, arith}
 use Rattle.trianglerows.specs.TrianglesUndone.{undo-start}
 use Rattle.trianglerows.proofs.undone.undo_lower_four.Goals as goal
+use Rattle.trianglerows.proofs.undone.undo_lower_four.Goals.{After-undo_lower-arg-1, After-undo_lower-arg-2-1}
 
 pub undo_lower-requires : goal.undo_lower-requires
 undo_lower-requires c =

@@ -2,6 +2,7 @@
 use Rattle.std.proofs.Common.{refl}
 use Rattle.trianglerows.specs.TrianglesUndone.{undo-start}
 use Rattle.trianglerows.proofs.undone.undo_lower_row.Goals as goal
+use Rattle.trianglerows.proofs.undone.undo_lower_row.Goals.{After-undo_lower_elements-arg-1}
 
 pub undo_lower_elements-requires : goal.undo_lower_elements-requires
 undo_lower_elements-requires c =

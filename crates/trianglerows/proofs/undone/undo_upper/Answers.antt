@@ -15,7 +15,7 @@ use Rattle.trianglerows.specs.TrianglesUndone.{recent-some, recent-next, upper-t
 use Rattle.whole.specs.Diff.{Within}
 use Rattle.whole.specs.Machine.{reads, back, within-le}
 use Rattle.trianglerows.proofs.undone.undo_upper.Goals as goal
-use Rattle.trianglerows.proofs.undone.undo_upper.Goals.{After-before_upper, After-sign_at, After-sign_at-d, After-undone_whole-z, After-upper_total-s, After-with_diagonal-last, Else-not-is_within, In-loop-t, Start}
+use Rattle.trianglerows.proofs.undone.undo_upper.Goals.{After-before_upper, After-loop-t, After-right_of-last, After-sign_at, After-sign_at-d, After-undone_whole-arg-1, After-undone_whole-z, After-upper_total-s, After-with_diagonal-arg-1, After-with_diagonal-last, Else-not-is_within, In-loop-t, Start, Then-not-is_within}
 
 -- what the run was lent
 abbrev S : In-loop-t → Start
@@ -246,8 +246,8 @@ loop-t-preserved c =
       sum_is c ∙ sym (rw (sum_is c) (recent-next _ _ l.t ∙ here i l.invariant.1.recovered.long)),
     )
 
-pub returns-then-not-is_within : goal.returns
-returns-then-not-is_within c =
+pub returns : goal.returns
+returns c =
     let c = (goal.at.returns c).After-loop-t in
     let s = c.before.before.before.before.before in
     let l = c.before.loop-t in

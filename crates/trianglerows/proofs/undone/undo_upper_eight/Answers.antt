@@ -3,6 +3,7 @@ use Rattle.std.proofs.Common.{sym, arith}
 use borrow.Author.Tests.{not-false}
 use Rattle.trianglerows.specs.TrianglesUndone.{undo-start, undone-none, undone-more, undone-all}
 use Rattle.trianglerows.proofs.undone.undo_upper_eight.Goals as goal
+use Rattle.trianglerows.proofs.undone.undo_upper_eight.Goals.{After-undo_upper, After-undo_upper-arg-1}
 
 pub undo_upper-a-requires : goal.undo_upper-a-requires
 undo_upper-a-requires c =

@@ -2,6 +2,7 @@
 use Rattle.std.proofs.Common.{sym, arith}
 use Rattle.trianglerows.specs.TrianglesUndone.{undo-start}
 use Rattle.trianglerows.proofs.undone.undo_upper_four.Goals as goal
+use Rattle.trianglerows.proofs.undone.undo_upper_four.Goals.{After-undo_upper-arg-1, After-undo_upper-arg-2-1}
 
 pub undo_upper-requires : goal.undo_upper-requires
 undo_upper-requires c =

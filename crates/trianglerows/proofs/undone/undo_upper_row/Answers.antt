@@ -2,6 +2,7 @@
 use Rattle.std.proofs.Common.{refl}
 use Rattle.trianglerows.specs.TrianglesUndone.{undo-start}
 use Rattle.trianglerows.proofs.undone.undo_upper_row.Goals as goal
+use Rattle.trianglerows.proofs.undone.undo_upper_row.Goals.{After-undo_upper_elements-arg-1}
 
 pub undo_upper_elements-requires : goal.undo_upper_elements-requires
 undo_upper_elements-requires c =

@@ -10,7 +10,7 @@ use Rattle.whole.specs.Diff.{lia, Within}
 use Rattle.whole.specs.Machine.{reads, back, within-le, within-*, within-pos, sign-within}
 use Rattle.whole.specs.Stated.{sum}
 use Rattle.trianglerows.proofs.undone.upper_total.Goals as goal
-use Rattle.trianglerows.proofs.undone.upper_total.Goals.{After-sign_at, After-with_diagonal-own, Start}
+use Rattle.trianglerows.proofs.undone.upper_total.Goals.{After-sign_at, After-sum_starting, After-with_diagonal-own, Start}
 
 -- One run of entries is all of them (`upper-entries`).
 -- the entries of the row, and the sums that they meet

@@ -1,0 +1,115 @@
+-- The stages before the refused one pass once more (`progress-goes`), and the search names the element of that stage
+-- (`named-there`).
+use Rattle.std.proofs.Common.{◌≡◌, ap, ◌∙◌, ◌-◌, ◌≤◌, ◌<◌, arith, length}
+use Rattle.factor.specs.PaddedBlocks.{padded_block}
+use Rattle.factor.specs.StageLoops.{progress-goes}
+use Rattle.factor.specs.Tasks.{nth_stage, stage-below, inputs-most}
+use Rattle.laws.specs.Accepted.{order-counts}
+use Rattle.laws.specs.Sound.{counts-agree}
+use Rattle.rectanglerun.specs.Runs.{paired, size_of, size-most, joint_run_by}
+use Rattle.rectanglerun.specs.Turns.{StandsAt, loads-copied, named-there}
+use Rattle.rules.specs.Numbers.{count}
+use Rattle.rectanglerun.proofs.block.element.Goals as goal
+use Rattle.rectanglerun.proofs.block.element.Goals.{After-copy_front-arg-1, After-count_at-n1, After-count_at-n2, After-joint_element, After-joint_element-arg-1, After-nth_start-i, After-run_stages, After-run_stages-arg-1, Else-not-named, Start}
+
+pub count_at-n1-requires : goal.count_at-n1-requires
+count_at-n1-requires c =
+    let c = (goal.at.count_at-n1-requires c).Else-not-named in
+    order-counts c.before.requires.0.column
+
+pub count_at-n2-requires : goal.count_at-n2-requires
+count_at-n2-requires c =
+    let c = (goal.at.count_at-n2-requires c).After-count_at-n1 in
+    order-counts c.before.before.requires.0.row
+
+-- the turn of the stage
+in-turn : (s : Start) → s.args.stage - 1 < count s.args.col.now 1
+in-turn s = omega (arith, s.requires.6, s.requires.7)
+
+agree : (s : Start) → count s.args.row.now 1 ≡ count s.args.col.now 1
+agree s = counts-agree _ _ s.requires.0.match
+
+-- the lent numbers fit into the block
+few : (s : Start) → length s.args.x.now ≤ 256
+few s =
+    let m = size-most s.requires.0 in
+    omega (arith, s.requires.3, inputs-most s.args.run.task (size_of s.args.col.now s.args.row.now))
+
+-- where the function began
+abbrev S : After-count_at-n2 → Start
+S c = c.before.before.before
+
+pub copy_front-requires : goal.copy_front-requires
+copy_front-requires c =
+    let c = (goal.at.copy_front-requires c).After-copy_front-arg-1 in
+    let s = S c.before in
+    let h = few s in
+    let l : length s.args.b.now ≡ 256 = ap length s.pre.5 in
+    (omega arith, omega arith)
+
+pub run_stages-requires : goal.run_stages-requires
+run_stages-requires c =
+    let c = (goal.at.run_stages-requires c).After-run_stages-arg-1 in
+    let f = c.before in
+    let n = f.before.before in
+    let s = S n in
+    let l = loads-copied s.pre.0 s.args.run {x = s.args.x.now} (few s) s.pre.4
+    (rw s.pre.5 at f.copy_front.ensures) in (
+      s.pre.0,
+      s.pre.1,
+      s.pre.2,
+      n.before.count_at-n1.ensures,
+      n.count_at-n2.ensures,
+      omega arith,
+      omega (arith, in-turn s),
+      l.stands.small,
+      l.long,
+    )
+
+-- the run stands before the refused stage
+stands :
+    (c : After-run_stages) →
+    let a = (S c.before.before.before.before).args in
+    StandsAt a.run a.col.now a.row.now (joint_run_by a.run a.col.now a.row.now (padded_block 256 a.x.now))
+    (a.stage - 1) c.run_stages.new.1.1.1.1.1.1.1.1.1.0
+stands c =
+    let f = c.before.before in
+    let s = S f.before.before in
+    let l = loads-copied s.pre.0 s.args.run {x = s.args.x.now} (few s) s.pre.4
+    (rw s.pre.5 at f.copy_front.ensures) in
+    progress-goes c.run_stages.ensures.0 l.stands s.pre.8 (omega (arith, s.pre.6))
+
+pub nth_start-j-requires : goal.nth_start-j-requires
+nth_start-j-requires c =
+    let c = (goal.at.nth_start-j-requires c).After-nth_start-i in
+    let s = S c.before.before.before.before.before in (s.pre.0.row, s.pre.2, rw (agree s) (in-turn s))
+
+pub joint_element-requires : goal.joint_element-requires
+joint_element-requires c =
+    let c = (goal.at.joint_element-requires c).After-joint_element-arg-1 in
+    let j = c.before in
+    let r = j.before.before in
+    let n = r.before.before.before.before in
+    let s = S n in
+    let m = s.pre.0 in
+    let e = n.before.count_at-n1.ensures in
+    let d = n.count_at-n2.ensures in
+    let p = paired m (nth_stage s.args.run.task (count s.args.col.now 1) (s.args.stage - 1))
+    (stage-below _ _ _ (in-turn s)) e d j.before.nth_start-i.ensures (j.nth_start-j.ensures ∙ rw (agree s)) in
+    (p, (stands r).small, rw (e, d) (omega (arith, size-most m, r.run_stages.ensures.1)))
+
+pub returns : goal.returns
+returns c =
+    let c = (goal.at.returns c).After-joint_element in
+    let j = c.before.before in
+    let r = j.before.before in
+    let n = r.before.before.before.before in
+    let s = S n in
+    let e = rw (
+      n.before.count_at-n1.ensures,
+      n.count_at-n2.ensures,
+      j.before.nth_start-i.ensures,
+      j.nth_start-j.ensures,
+      agree s,
+    ) at c.joint_element.ensures in
+    rw e (named-there s.args.run _ _ s.args.stage s.pre.6 s.pre.7 (stands r) s.pre.8)
