@@ -18,22 +18,22 @@ abbrev S : In-loop-j → Start
 S c = c.before.before.before
 
 -- the element in turn is one of the row
-inside : (c : In-loop-j → c.before.loop-j.j < (S c).args.f.order
+inside : (c : In-loop-j) → c.before.loop-j.j < (S c).args.f.order
 inside c = c.loop-j-test.true
 
 -- its sum, its sign and its number
-total : (c : After-crossing_total-s →
+total : (c : After-crossing_total-s) →
     let i = c.before in
     to_z w64 (of_z w64 c.crossing_total-s.result)
     ≡ total_of (S i).args.row.now (S i).args.f i.before.loop-j.j (S i).args.v.now
 total c = back w64 _ c.crossing_total-s.type_inv ∙ c.crossing_total-s.ensures
 
-sign : (c : After-sign_at →
+sign : (c : After-sign_at) →
     let i = c.before.before in
     to_z w32 (of_z w32 c.sign_at.result) ≡ sign_at (S i).args.row.now (S i).args.f i.before.loop-j.j
 sign c = back w32 _ c.sign_at.type_inv ∙ c.sign_at.ensures
 
-number : (c : In-loop-j →
+number : (c : In-loop-j) →
     to_z w32 (of_z w32 (at c.before.loop-j.x ((S c).args.k + c.before.loop-j.j)))
     ≡ at c.before.loop-j.x ((S c).args.k + c.before.loop-j.j)
 number c = reads w32 (c.before.loop-j.invariant.2.small _) tt
@@ -58,7 +58,7 @@ F c =
     applied_in (rule_by a.down a.even) a.row.now a.f (to_z w32 (of_z w32 a.d)) a.v.now a.k c.before.loop-j.x
     (a.k + c.before.loop-j.j)
 
-value : (c : After-applied_whole-z →
+value : (c : After-applied_whole-z) →
     to_z w64 (of_z w64 c.applied_whole-z.result) ≡ F c.before.before.before.before
 value c =
     let i = c.before.before.before.before in
@@ -82,7 +82,7 @@ returns-then-not-is_within c =
     (turn-beyond _ (λ u. s.args.k + u) l.j s.args.x.now i.loop-j-test.true l.invariant.1
     (test-no bound (value c.before.before) c.before.is_within.ensures (not-true _ c.if-not-is_within.true))))
 
-held : (c : Else-not-is_within → Within bound (F c.before.before.before.before.before.before)
+held : (c : Else-not-is_within) → Within bound (F c.before.before.before.before.before.before)
 held c = test-yes bound (value c.before.before) c.before.is_within.ensures (not-false _ c.if-not-is_within.false)
 
 pub loop-j-preserved : goal.loop-j-preserved

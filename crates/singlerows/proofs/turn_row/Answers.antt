@@ -6,25 +6,25 @@ use Rattle.whole.specs.Machine.{reads, back}
 use Rattle.singlerows.proofs.turn_row.Goals as goal
 use Rattle.singlerows.proofs.turn_row.Goals.{After-sign_in, After-turned_number, In-loop-j}
 
-sign : (c : After-sign_in →
+sign : (c : After-sign_in) →
     let l = c.before in
     let s = l.before.before in
     to_z w32 (of_z w32 c.sign_in.result) ≡ s.args.d *ℤ at s.args.g.now l.before.loop-j.j
 sign c =
     back w32 _ c.sign_in.type_inv ∙ c.sign_in.ensures ∙ rw (to_z-of_z c.before.before.before.ranges.d)
 
-room : (c : In-loop-j → c.before.before.args.k + c.before.loop-j.j < 256
+room : (c : In-loop-j) → c.before.before.args.k + c.before.loop-j.j < 256
 room c = let h = c.before.before.requires.0.places in let l = c.loop-j-test.true in omega arith
 
 -- the number, which is not turned yet
-number : (c : In-loop-j → let s = c.before.before in let l = c.before.loop-j in
+number : (c : In-loop-j) → let s = c.before.before in let l = c.before.loop-j in
     to_z w32 (of_z w32 (at l.x (s.args.k + l.j))) ≡ at s.args.x.now (s.args.k + l.j)
 number c =
     let s = c.before.before in
     let l = c.before.loop-j in
     rw (turned-ahead l.invariant.1) (reads w32 (s.requires.0.numbers.small (s.args.k + l.j)) tt)
 
-value : (c : After-turned_number →
+value : (c : After-turned_number) →
     let l = c.before.before.before in
     let s = l.before.before in
     to_z w32 (of_z w32 c.turned_number.result) ≡ (s.args.d *ℤ at s.args.g.now l.before.loop-j.j)

@@ -33,7 +33,7 @@ loop-u-init c =
       ap length e ∙ length-fill _ _ _,
     )
 
-inside-order : (p : After-nth_undone-j →
+inside-order : (p : After-nth_undone-j) →
     p.nth_undone-j.result < p.before.before.before.before.before.before.args.fb.order
 inside-order p =
     let s = p.before.before.before.before.before.before in
@@ -46,7 +46,7 @@ P p =
     p.before.before.before.before.before.before.args.i *
     p.before.before.before.before.before.before.args.fb.order + p.nth_undone-j.result
 
-room : (p : After-nth_undone-j → P p < 256
+room : (p : After-nth_undone-j) → P p < 256
 room p =
     let s = p.before.before.before.before.before.before in
     in_block p.nth_undone-j.result s.requires.0.order s.requires.1.order s.requires.2 (inside-order p)
@@ -76,10 +76,10 @@ F p =
 abbrev D : After-nth_undone-j → ℤ
 D p = let s = p.before.before.before.before.before.before in sign_at s.args.col.now s.args.fa s.args.i
 
-sign : (c : After-sign_at-d → to_z w32 (of_z w32 c.sign_at-d.result) ≡ D c.before
+sign : (c : After-sign_at-d) → to_z w32 (of_z w32 c.sign_at-d.result) ≡ D c.before
 sign c = back w32 _ c.sign_at-d.type_inv ∙ c.sign_at-d.ensures
 
-old : (p : After-nth_undone-j → Within bound (at p.before.before.loop-u.x (P p))
+old : (p : After-nth_undone-j) → Within bound (at p.before.before.loop-u.x (P p))
 old p = p.before.before.loop-u.invariant.2.small (P p)
 
 pub undone_at-z-requires : goal.undone_at-z-requires
@@ -90,7 +90,7 @@ undone_at-z-requires c =
     rw (sign c.before.before, reads w32 (old p) tt)
     (s.requires.1, inside-order p, s.requires.0.sign s.args.i s.requires.2, p.before.before.loop-u.invariant.4, old p)
 
-value : (c : After-undone_at-z →
+value : (c : After-undone_at-z) →
     to_z w64 (of_z w64 c.undone_at-z.result) ≡ F c.before.before.before.before
 value c =
     let p = c.before.before.before.before in
@@ -122,7 +122,7 @@ returns-then-not-is_within c =
       keeps = ap length l.invariant.1 ∙ length-in-place _ _ l.u _;
     }
 
-held : (c : Else-not-is_within → Within bound (F c.before.before.before.before.before.before)
+held : (c : Else-not-is_within) → Within bound (F c.before.before.before.before.before.before)
 held c = test-yes bound (value c.before.before) c.before.is_within.ensures (not-false _ c.if-not-is_within.false)
 
 pub offset_bounds-x-e-in-loop-u : goal.offset_bounds-x-e-in-loop-u
@@ -136,7 +136,7 @@ bounds-x-e-in-loop-u c =
     let h = room c.before.before.before.before.before.before in omega arith
 
 -- a column of the row of sums
-column : (p : After-nth_undone-j → p.nth_undone-j.result < 16
+column : (p : After-nth_undone-j) → p.nth_undone-j.result < 16
 column p = let h = inside-order p in let o = p.before.before.before.before.before.before.requires.1.order in omega arith
 
 pub offset_bounds-v-j : goal.offset_bounds-v-j
@@ -149,11 +149,11 @@ bounds-v-j c =
     let c = (goal.at.bounds-v-j c).Else-not-is_within in
     let h = column c.before.before.before.before.before.before in omega arith
 
-diagonal-is-small : (p : After-nth_undone-j → Within most_entry (diagonal_of (D p))
+diagonal-is-small : (p : After-nth_undone-j) → Within most_entry (diagonal_of (D p))
 diagonal-is-small p =
     let s = p.before.before.before.before.before.before in diagonal-small (s.requires.0.sign s.args.i s.requires.2)
 
-diagonal : (c : After-diagonal_of →
+diagonal : (c : After-diagonal_of) →
     to_z w32 (of_z w32 c.diagonal_of.result) ≡ diagonal_of
     (D c.before.before.before.before.before.before.before.before)
 diagonal c =
@@ -184,7 +184,7 @@ bounds-v-j-in-loop-u c =
 abbrev G : After-nth_undone-j → ℤ
 G p = at p.before.before.loop-u.v-1 p.nth_undone-j.result +ℤ (diagonal_of (D p) *ℤ F p)
 
-sum_is : (c : After-with_sum →
+sum_is : (c : After-with_sum) →
     to_z w64 (of_z w64 c.with_sum.result) ≡ G c.before.before.before.before.before.before.before.before.before
 sum_is c =
     let e = c.before.before.before in
@@ -197,12 +197,12 @@ sum_is c =
           e.before.before,
     )
 
-long : (p : After-nth_undone-j → length p.before.before.loop-u.x ≡ 256
+long : (p : After-nth_undone-j) → length p.before.before.loop-u.x ≡ 256
 long p =
     let l = p.before.before.loop-u in ap length l.invariant.1 ∙ length-in-place _ _ l.u _
     ∙ p.before.before.before.before.before.before.requires.5
 
-next : (p : After-nth_undone-j →
+next : (p : After-nth_undone-j) →
     let s = p.before.before.before.before.before.before in
     let l = p.before.before.loop-u in
     RecoveredSums s.args.col.now s.args.fa s.args.i s.args.fb (l.u + 1) (set l.x (P p) (F p))
@@ -216,7 +216,7 @@ next p =
     s.requires.2 l.u p.before.loop-u-test.true l.invariant.3 _
     (rw p.nth_undone-j.ensures at h) l.invariant.5)
 
-small : (p : After-nth_undone-j → Within bound (F p) → Within most_column (G p)
+small : (p : After-nth_undone-j) → Within bound (F p) → Within most_column (G p)
 small p h =
     let s = p.before.before.before.before.before.before in
     let l = p.before.before.loop-u in

@@ -8,7 +8,7 @@ use Rattle.factor.proofs.magnitudes.are_whole.Goals as goal
 use Rattle.factor.proofs.magnitudes.are_whole.Goals.{After-is_whole, After-loop-j, Else-not-is_whole, Then-not-is_whole}
 
 told :
-    (c : After-is_whole →
+    (c : After-is_whole) →
     c.is_whole.result
     ≡ eqb (nat_abs (at c.before.before.before.before.args.a.now
     (c.before.before.before.before.args.p + c.before.before.before.loop-j.j)) % unit) 0

@@ -1,5 +1,5 @@
 -- The entries are read back from their bits; their sum is small.
-use Rattle.std.proofs.Common.{arith, List, ◌∷◌, ◌≡◌, ap, ◌∙◌, ◌+◌, ℤ, ◌*ℤ◌, w32, w64, to_z, of_z}
+use Rattle.std.proofs.Common.{arith, List, [], ◌∷◌, ◌≡◌, ap, ◌∙◌, ◌+◌, ℤ, ◌*ℤ◌, w32, w64, to_z, of_z}
 use Rattle.factor.specs.Rounding.{rule_by}
 use Rattle.four.specs.TurnLaws.{row-sum-small}
 use Rattle.four.specs.Turns.{entry_at, row_sum}

@@ -1,5 +1,5 @@
 -- The sign, the number and the rounded sum are small, and so is what is made of them.
-use Rattle.std.proofs.Common.{◌≡◌, refl, ap, ◌∙◌, true, set, w32, w64, to_z, of_z}
+use Rattle.std.proofs.Common.{[], ◌≡◌, refl, ap, ◌∙◌, true, set, w32, w64, to_z, of_z}
 use Rattle.factor.specs.PaddedBlocks.{padded_block, padded-bounded}
 use Rattle.factor.specs.Rounding.{rule_by}
 use Rattle.four.specs.TurnLaws.{rounded-sum-small, turned_as}

@@ -21,7 +21,7 @@ G c e =
     c.before.before.before.is_whole_row-whole.result c.magnitude_sums_at.new.1.1.1.1.1.0 (at s.args.x.now e)
 
 link :
-    (c : After-magnitude_sums_at (j : ℕ) → j < c.before.before.before.before.args.fb.order →
+    (c : After-magnitude_sums_at) (j : ℕ) → j < c.before.before.before.before.args.fb.order →
     let s = c.before.before.before.before in
     allowed_of s.args.rule s.args.col.now s.args.fa s.args.row.now s.args.fb s.args.x.now
     (s.args.i * s.args.fb.order + j) ≡ G c (s.args.i * s.args.fb.order + j)
@@ -41,7 +41,7 @@ P c =
     c.before.before.before.before.before.before.args.fb.order + c.before.loop-j.j
 
 -- the element, which this row has not written yet
-diagonal : (c : In-loop-j →
+diagonal : (c : In-loop-j) →
     to_z w32 (of_z w32 (at c.before.loop-j.x (P c))) ≡ at c.before.before.before.before.before.before.args.x.now (P c)
 diagonal c =
     let l = c.before.loop-j in let s = c.before.before.before.before.before.before in reads w32 (l.invariant.2.small (P c)) tt
@@ -59,7 +59,7 @@ allowed_at-z-requires c =
       s.requires.3.small (P l),
     )
 
-value : (c : After-allowed_at-z →
+value : (c : After-allowed_at-z) →
     to_z w64 (of_z w64 c.allowed_at-z.result) ≡ G c.before.before.before.before.before (P c.before.before.before)
 value c =
     let l = c.before.before.before in
@@ -83,7 +83,7 @@ returns-then-not-is_within c =
       keeps = ap length l.before.loop-j.invariant.1 ∙ length-in-place _ _ l.before.loop-j.j _;
     }
 
-held : (c : Else-not-is_within →
+held : (c : Else-not-is_within) →
     Within most_allowance (G c.before.before.before.before.before.before.before
     (P c.before.before.before.before.before))
 held c = test-yes most_allowance (value c.before.before) c.before.is_within.ensures (not-false _ c.if-not-is_within.false)

@@ -8,7 +8,7 @@ use Rattle.joint.proofs.sums.add_row.Goals as goal
 use Rattle.joint.proofs.sums.add_row.Goals.{After-with_term, After-with_term-arg-in-loop-c-1, In-loop-c}
 
 -- the sum whose turn it is
-still : (i : In-loop-c →
+still : (i : In-loop-c) →
     to_z w64 (of_z w64 (at i.before.loop-c.v i.before.loop-c.c)) ≡ at i.before.before.args.v.now i.before.loop-c.c
 still i =
     let l = i.before.loop-c in

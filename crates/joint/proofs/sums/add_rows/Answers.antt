@@ -11,7 +11,7 @@ loop-j-init c =
     (omega arith, added_none c.requires)
 
 -- row j lies in the block
-row : (i : In-loop-j →
+row : (i : In-loop-j) →
     i.before.before.args.k + i.before.loop-j.j * i.before.before.args.n + i.before.before.args.w ≤ 256
 row i = i.before.before.requires.places i.before.loop-j.j i.loop-j-test.true
 

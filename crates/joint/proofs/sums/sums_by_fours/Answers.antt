@@ -7,12 +7,12 @@ use Rattle.joint.proofs.sums.sums_by_fours.Goals as goal
 use Rattle.joint.proofs.sums.sums_by_fours.Goals.{After-put_four, After-put_four-arg-1, After-t-1, In-loop-g}
 
 -- the columns of this turn
-columns : (i : In-loop-g → 4 * i.before.loop-g.g + 4 ≤ i.before.before.args.n
+columns : (i : In-loop-g) → 4 * i.before.loop-g.g + 4 ≤ i.before.before.args.n
 columns i = let s = i.before.before in omega (arith, div-add-mod s.args.n 4, i.before.loop-g.invariant.1, i.loop-g-test.true)
 
 -- their rows
 rows :
-    (i : In-loop-g →
+    (i : In-loop-g) →
     let s = i.before.before.args in
     Adding s.a.now s.p s.m s.x.now (s.k + 4 * i.before.loop-g.g) s.n 4 (replicate 16 (pos 0))
 rows i =

@@ -8,12 +8,12 @@ use Rattle.joint.proofs.sums.sums_by_fours_with.Goals as goal
 use Rattle.joint.proofs.sums.sums_by_fours_with.Goals.{After-put_four, After-put_four-arg-1, After-t-in-loop-g-1, In-loop-g}
 
 -- the columns of this turn
-columns : (i : In-loop-g → 4 * i.before.loop-g.g + 4 ≤ i.before.before.args.n
+columns : (i : In-loop-g) → 4 * i.before.loop-g.g + 4 ≤ i.before.before.args.n
 columns i = let s = i.before.before in omega (arith, div-add-mod s.args.n 4, i.before.loop-g.invariant.1, i.loop-g-test.true)
 
 -- their rows, once the own terms are in their sums
 rows :
-    (i : In-loop-g →
+    (i : In-loop-g) →
     let s = i.before.before.args in
     let g = i.before.loop-g.g in
     Adding s.a.now s.p s.m s.x.now (s.k + 4 * g) s.n 4

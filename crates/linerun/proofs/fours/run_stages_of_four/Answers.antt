@@ -27,7 +27,7 @@ count_at-many-requires c =
 abbrev G : After-is_down-down → Run
 G c = record { task = c.before.args.run.task; rule = rule_by c.is_down-down.result false }
 
-by_first : (c : After-is_down-down → rule_by c.is_down-down.result false ≡ c.before.args.run.rule
+by_first : (c : After-is_down-down) → rule_by c.is_down-down.result false ≡ c.before.args.run.rule
 by_first c = rw c.is_down-down.ensures (rw c.before.requires.4 at (by_tests c.before.args.run.rule))
 
 pub loop-t-init : goal.loop-t-init
@@ -40,7 +40,7 @@ loop-t-init c =
     (omega arith, c.count_at-many.ensures, run-starts (G d) s.args.sheet.now small)
 
 -- the stage in turn, and its factor
-in-turn : (c : In-loop-t →
+in-turn : (c : In-loop-t) →
     c.before.loop-t.t < count c.before.before.before.before.before.args.sheet.now 1
 in-turn c = rw c.before.loop-t.invariant.1 at c.loop-t-test.true
 
@@ -63,7 +63,7 @@ run_stage-r-requires c =
 
 -- the stage, of the order itself
 told :
-    (c : After-run_stage-r →
+    (c : After-run_stage-r) →
     let i = c.before.before in
     let d = i.before.before.before.before in
     let s = d.before.args.sheet.now in

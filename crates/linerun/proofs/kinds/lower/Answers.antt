@@ -22,14 +22,14 @@ K s = rule_by s.args.down s.args.even
 abbrev F : Start → ℕ → ℤ
 F s = applied_at (K s) s.args.sheet.now s.args.f s.args.t5
 
-len : (s : Start → length s.args.t5 ≡ 16
+len : (s : Start) → length s.args.t5 ≡ 16
 len s = search rules
 
-fills : (s : Start → Filling s.args.f.order (λ k. fill k (F s) s.args.t5) (λ k. k) (F s)
+fills : (s : Start) → Filling s.args.f.order (λ k. fill k (F s) s.args.t5) (λ k. k) (F s)
 fills s = applied-fills (K s) s.requires.0 s.args.t5 (len s)
 
 -- the turn is one of the order's
-turn : (c : In-loop-m → c.before.loop-m.m < c.before.before.args.f.order
+turn : (c : In-loop-m) → c.before.loop-m.m < c.before.before.args.f.order
 turn c = let l = c.loop-m-test.true in omega (arith, c.before.loop-m.invariant.1)
 
 pub left_sum-q-requires : goal.left_sum-q-requires
@@ -42,7 +42,7 @@ left_sum-q-requires c =
 
 -- the rounded sum, as it was read
 sum :
-    (c : After-left_sum-q →
+    (c : After-left_sum-q) →
     let i = c.before.before in
     let s = i.before.before in
     to_z w64 (of_z w64 c.left_sum-q.result) ≡ rounded_sum (K s) s.args.sheet.now s.args.f s.args.t5
@@ -60,7 +60,7 @@ apply_at-requires c =
 
 -- what the element becomes
 value :
-    (c : After-apply_at →
+    (c : After-apply_at) →
     let l = c.before.before.before.before.before.before in
     let s = l.before in
     let q = c.before.before.before.left_sum-q.result in

@@ -28,15 +28,15 @@ P s t = t
 abbrev F : Start → ℕ → ℤ
 F s t = undone_at (K s) s.args.sheet.now s.args.f (W s t) (P s t)
 
-len : (s : Start → length s.args.y ≡ 16
+len : (s : Start) → length s.args.y ≡ 16
 len s = search rules
 
-fills : (s : Start → Filling s.args.f.order (W s) (P s) (F s)
+fills : (s : Start) → Filling s.args.f.order (W s) (P s) (F s)
 unfolding nth_undone
 fills s = undone-fills (K s) s.requires.0 s.args.y (len s) s.requires.2 (P s) (λ t l. rw s.requires.1)
 
 -- the turn is one of the order's
-turn : (c : In-loop-t → c.before.loop-t.t < c.before.before.args.f.order
+turn : (c : In-loop-t) → c.before.loop-t.t < c.before.before.args.f.order
 turn c = let l = c.loop-t-test.true in omega (arith, c.before.loop-t.invariant.1)
 
 pub left_sum-q-requires : goal.left_sum-q-requires
@@ -53,7 +53,7 @@ left_sum-q-requires c =
 
 -- the rounded sum, as it was read
 sum :
-    (c : After-left_sum-q →
+    (c : After-left_sum-q) →
     let l = c.before.before.before in
     let s = l.before in
     to_z w64 (of_z w64 c.left_sum-q.result) ≡ rounded_sum (K s) s.args.sheet.now s.args.f l.loop-t.x-1
@@ -72,7 +72,7 @@ undo_at-requires c =
 
 -- what the element was
 value :
-    (c : After-undo_at →
+    (c : After-undo_at) →
     let l = c.before.before.before.before.before in
     let s = l.before in
     let m = l.loop-t.t in

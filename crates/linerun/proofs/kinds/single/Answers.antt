@@ -20,19 +20,19 @@ K s = rule_by s.args.down s.args.even
 abbrev F : Start → ℕ → ℤ
 F s = applied_at (K s) s.args.sheet.now s.args.f s.args.t5
 
-len : (s : Start → length s.args.t5 ≡ 16
+len : (s : Start) → length s.args.t5 ≡ 16
 len s = search rules
 
-fills : (s : Start → Filling s.args.f.order (λ k. fill k (F s) s.args.t5) (λ k. k) (F s)
+fills : (s : Start) → Filling s.args.f.order (λ k. fill k (F s) s.args.t5) (λ k. k) (F s)
 fills s = applied-fills (K s) s.requires.0 s.args.t5 (len s)
 
 -- the turn is one of the order's
-turn : (c : In-loop-m → c.before.loop-m.m < c.before.before.args.f.order
+turn : (c : In-loop-m) → c.before.loop-m.m < c.before.before.args.f.order
 turn c = let l = c.loop-m-test.true in omega (arith, c.before.loop-m.invariant.1)
 
 -- the rounded sum, as it was read
 sum :
-    (c : After-single_sum-q →
+    (c : After-single_sum-q) →
     let i = c.before.before in
     let s = i.before.before in
     to_z w64 (of_z w64 c.single_sum-q.result) ≡ rounded_sum (K s) s.args.sheet.now s.args.f s.args.t5
@@ -50,7 +50,7 @@ apply_at-requires c =
 
 -- what the element becomes
 value :
-    (c : After-apply_at →
+    (c : After-apply_at) →
     let l = c.before.before.before.before.before.before in
     let s = l.before in
     let q = c.before.before.before.single_sum-q.result in

@@ -27,25 +27,25 @@ P s t = nth_undone s.args.f.kind s.args.f.order s.args.f.row t
 abbrev F : Start → ℕ → ℤ
 F s t = undone_at (K s) s.args.sheet.now s.args.f (W s t) (P s t)
 
-len : (s : Start → length s.args.y ≡ 16
+len : (s : Start) → length s.args.y ≡ 16
 len s = search rules
 
-fills : (s : Start → Filling s.args.f.order (W s) (P s) (F s)
+fills : (s : Start) → Filling s.args.f.order (W s) (P s) (F s)
 unfolding nth_undone
 fills s = undone-fills (K s) s.requires.0 s.args.y (len s) s.requires.2 (P s) (λ t l. refl)
 
 -- the turn is one of the order's
-turn : (c : In-loop-t → c.before.loop-t.t < c.before.before.args.f.order
+turn : (c : In-loop-t) → c.before.loop-t.t < c.before.before.args.f.order
 turn c = let l = c.loop-t-test.true in omega (arith, c.before.loop-t.invariant.1)
 
-small-place : (c : After-nth_undone-m → c.nth_undone-m.result < c.before.before.before.args.f.order
+small-place : (c : After-nth_undone-m) → c.nth_undone-m.result < c.before.before.before.args.f.order
 small-place c =
     let i = c.before in
     rw c.nth_undone-m.ensures ((fills i.before.before).below i.before.loop-t.t (turn i))
 
 -- the rounded sum, as it was read
 sum :
-    (c : After-single_sum-q →
+    (c : After-single_sum-q) →
     let i0 = c.before.before in
     let l = c.before.before.before.before in
     let s = l.before in
@@ -67,7 +67,7 @@ undo_at-requires c =
 
 -- what the element was
 value :
-    (c : After-undo_at →
+    (c : After-undo_at) →
     let l = c.before.before.before.before.before.before in
     let s = l.before in
     let m = P s l.loop-t.t in

@@ -30,15 +30,15 @@ P s t = s.args.f.order - 1 - t
 abbrev F : Start → ℕ → ℤ
 F s t = undone_at (K s) s.args.sheet.now s.args.f (W s t) (P s t)
 
-len : (s : Start → length s.args.y ≡ 16
+len : (s : Start) → length s.args.y ≡ 16
 len s = search rules
 
-fills : (s : Start → Filling s.args.f.order (W s) (P s) (F s)
+fills : (s : Start) → Filling s.args.f.order (W s) (P s) (F s)
 unfolding nth_undone
 fills s = undone-fills (K s) s.requires.0 s.args.y (len s) s.requires.2 (P s) (λ t l. rw s.requires.1 (omega arith))
 
 -- a factor of some order has a last row, which ends in the sheet
-last : (s : Start → s.args.f.entries + triangle s.args.f.order ≤ length s.args.sheet.now
+last : (s : Start) → s.args.f.entries + triangle s.args.f.order ≤ length s.args.sheet.now
 last s =
     let n = s.args.f.order in
     let l = s.requires.2 in
@@ -64,11 +64,11 @@ loop-t-init c =
     )
 
 -- the turn is one of the order's
-turn : (c : In-loop-t → c.before.loop-t.t < c.before.before.before.before.args.f.order
+turn : (c : In-loop-t) → c.before.loop-t.t < c.before.before.before.before.args.f.order
 turn c = let l = c.loop-t-test.true in omega (arith, c.before.loop-t.invariant.1)
 
 -- where the row of this turn starts
-place : (c : In-loop-t →
+place : (c : In-loop-t) →
     let f = c.before.before.before.before.args.f in c.before.loop-t.p ≡ f.entries + above f.order
     (f.order - 1 - c.before.loop-t.t) + c.before.loop-t.t
 unfolding above
@@ -97,7 +97,7 @@ right_sum-q-requires c =
 
 -- the rounded sum, as it was read
 sum :
-    (c : After-right_sum-q →
+    (c : After-right_sum-q) →
     let l = c.before.before.before in
     let s = l.before.before.before in
     to_z w64 (of_z w64 c.right_sum-q.result) ≡ rounded_sum (K s) s.args.sheet.now s.args.f l.loop-t.x-1
@@ -117,7 +117,7 @@ undo_at-requires c =
 
 -- what the element was
 value :
-    (c : After-undo_at →
+    (c : After-undo_at) →
     let l = c.before.before.before.before.before in
     let s = l.before.before.before in
     let m = s.args.f.order - 1 - l.loop-t.t in

@@ -12,7 +12,7 @@ use Rattle.linerun.proofs.runs.run_stages.Goals.{After-count_at-many, After-coun
 
 -- what the loop holds
 ranged :
-    (l : At-loop-t →
+    (l : At-loop-t) →
     (1 ≤ l.before.before.count_at-n.result) × (l.before.before.count_at-n.result ≤ most_order)
 ranged l = let r = accepted-order l.before.before.before.requires.0 in rw l.loop-t.invariant.1 (r.least, r.most)
 
@@ -38,7 +38,7 @@ loop-t-init c =
     )
 
 -- the stage in turn
-in-turn : (c : In-loop-t → c.before.loop-t.t < count c.before.before.before.before.args.sheet.now 1
+in-turn : (c : In-loop-t) → c.before.loop-t.t < count c.before.before.before.before.args.sheet.now 1
 in-turn c = rw c.before.loop-t.invariant.2 at c.loop-t-test.true
 
 abbrev T : In-loop-t → ℕ
@@ -59,7 +59,7 @@ run_stage-s-requires c =
 
 -- the stage, of the order itself
 told :
-    (c : After-run_stage-s →
+    (c : After-run_stage-s) →
     let i = c.before.before in
     let a = i.before.before.before.before.args in
     let s = a.sheet.now in

@@ -15,11 +15,11 @@ use Rattle.linerun.proofs.steps.allow_weights.Goals.{After-allowed_at-z, After-l
 abbrev F : Start → ℕ → ℤ
 F s = allowed_at s.args.rule s.args.sheet.now s.args.f s.args.t4
 
-len : (s : Start → length s.args.t4 ≡ 16
+len : (s : Start) → length s.args.t4 ≡ 16
 len s = search rules
 
 value :
-    (c : After-allowed_at-z →
+    (c : After-allowed_at-z) →
     to_z w64 (of_z w64 c.allowed_at-z.result) ≡ F c.before.before.before.before c.before.before.before.loop-m.m
 value c = back w64 _ c.allowed_at-z.type_inv ∙ c.allowed_at-z.ensures
 

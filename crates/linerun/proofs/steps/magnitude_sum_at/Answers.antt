@@ -8,7 +8,7 @@ use Rattle.linerun.proofs.steps.magnitude_sum_at.Goals as goal
 use Rattle.linerun.proofs.steps.magnitude_sum_at.Goals.{After-column_of, After-loop-j, After-magnitude, After-with_term-arg-1}
 
 -- the magnitude, and its column
-value : (c : After-magnitude →
+value : (c : After-magnitude) →
     let i = c.before.before in
     let s = i.before.before.before in
     to_z w32 (of_z w32 c.magnitude.result) ≡ magnitude_at s.args.sheet.now (s.args.r.at + i.before.loop-j.j)
@@ -17,7 +17,7 @@ value c =
     let h = i.before.before.before.requires.0.entries i.before.loop-j.j i.loop-j-test.true in
     back w32 _ c.magnitude.type_inv ∙ c.magnitude.ensures ∙ rw (reads w32 h tt)
 
-below : (c : After-column_of → c.column_of.result < most_order
+below : (c : After-column_of) → c.column_of.result < most_order
 below c =
     let i = c.before.before.before in
     rw c.column_of.ensures

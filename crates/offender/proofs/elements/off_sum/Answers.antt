@@ -14,12 +14,12 @@ abbrev term : Start → ℕ → ℤ
 term s k = off (weight_of s.args.q s.args.col.now s.args.row.now) s.args.e k *ℤ at s.args.x.now k
 
 -- k is an element
-turn : (c : In-loop-k → c.before.loop-k.k < cells c.before.before.before.args.q
+turn : (c : In-loop-k) → c.before.loop-k.k < cells c.before.before.before.args.q
 turn c = let l = c.loop-k-test.true in omega (arith, c.before.loop-k.invariant.1)
 
 -- the term, as it was read
 value :
-    (c : After-wide →
+    (c : After-wide) →
     let l = c.before.before.before.before in
     to_z w64 (of_z w64 c.before.before.off_at.result) *ℤ to_z w64 (of_z w64 c.wide.result)
     ≡ term l.before.before l.loop-k.k

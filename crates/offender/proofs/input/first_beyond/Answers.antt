@@ -10,7 +10,7 @@ use Rattle.offender.proofs.input.first_beyond.Goals.{After-loop-e, After-wide, T
 
 -- the number, as it was read
 value :
-    (c : After-wide →
+    (c : After-wide) →
     let l = c.before.before.before in
     to_z w64 (of_z w64 c.wide.result) ≡ at l.before.args.x.now l.loop-e.e
 value c = back w64 _ c.wide.type_inv ∙ c.wide.ensures ∙ back w32 _ c.before.wide-arg-1.given

@@ -11,7 +11,7 @@ abbrev test : Start → ℕ → Bool
 test s k = eqb (turn_of s.args.back s.args.q s.args.col.now s.args.row.now k) s.args.t
 
 -- e is an element
-turn : (c : In-loop-e → c.before.loop-e.e < cells c.before.before.before.args.q
+turn : (c : In-loop-e) → c.before.loop-e.e < cells c.before.before.before.args.q
 turn c = let l = c.loop-e-test.true in omega (arith, c.before.loop-e.invariant.1)
 
 pub returns-then-not-look_at : goal.returns-then-not-look_at

@@ -17,13 +17,13 @@ use Rattle.passrun.proofs.passes.run_pass.Goals.{After-loop-t, After-run_stage, 
 abbrev S : At-loop-t → Start
 S l = l.before.before
 
-in-turn : (c : In-loop-t → c.before.loop-t.t < count (S c.before).args.sheet.now 1
+in-turn : (c : In-loop-t) → c.before.loop-t.t < count (S c.before).args.sheet.now 1
 in-turn c = let m = (S c.before).pre.3 in omega arith
 
 abbrev T : In-loop-t → ℕ
 T c = let a = (S c.before).args in nth_stage a.run.task (count a.sheet.now 1) c.before.loop-t.t
 
-below : (c : In-loop-t → T c < count (S c.before).args.sheet.now 1
+below : (c : In-loop-t) → T c < count (S c.before).args.sheet.now 1
 below c = stage-below _ _ _ (in-turn c)
 
 pub count_at-n-requires : goal.count_at-n-requires
@@ -49,7 +49,7 @@ run_stage-requires c =
 
 -- the stage, over any such lines
 stepped :
-    (c : After-run_stage → let i = c.before.before.before in let a = (S i.before).args in
+    (c : After-run_stage) → let i = c.before.before.before in let a = (S i.before).args in
     (N : ℕ) (r : Lines) → LinesOf N r a.sheet.now a.w →
     Step (limit_of a.run.task) N (taken_by a.run N (stage_in_turn a.run r a.sheet.now i.before.loop-t.t)
     (laid N r i.before.loop-t.x)) c.run_stage.result (laid N r c.run_stage.new.1.1.1.1.1.0)

@@ -21,12 +21,12 @@ allowed_at-z-requires c =
     let s = i.before.before.before.before.before.before in
     rw i.before.loop-m.invariant.1 (s.requires.0, i.loop-m-test.true, lane-bounded s.args.l s.requires.2)
 
-value : (c : After-allowed_at-z →
+value : (c : After-allowed_at-z) →
     let i = c.before.before in
     to_z w64 (of_z w64 c.allowed_at-z.result) ≡ G i.before.before.before.before.before.before i.before.loop-m.m
 value c = back w64 _ c.allowed_at-z.type_inv ∙ c.allowed_at-z.ensures ∙ rw c.before.before.before.loop-m.invariant.1
 
-length-after : (c : After-keep → length c.keep.new.1.1.0 ≡ 256
+length-after : (c : After-keep) → length c.keep.new.1.1.0 ≡ 256
 length-after c = search rules
 
 pub returns-then-not-keep : goal.returns-then-not-keep

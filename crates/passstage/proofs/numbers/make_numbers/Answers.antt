@@ -17,7 +17,7 @@ Z s l =
     (R (rule_by s.args.down s.args.even) unit (joined s.args.v.now l))
 
 -- the number, which is not made yet
-number : (c : In-loop-l → let s = c.before.before in let l = c.before.loop-l in
+number : (c : In-loop-l) → let s = c.before.before in let l = c.before.loop-l in
     to_z w32 (of_z w32 (at l.x (s.args.k + l.l))) ≡ at s.args.x.now (s.args.k + l.l)
 number c =
     let s = c.before.before in
@@ -26,11 +26,11 @@ number c =
     (reads w32 (s.requires.0.small.small (s.args.k + l.l)) tt)
 
 -- a sum of parts
-part : (c : In-loop-l (e : ℕ) → let s = c.before.before in
+part : (c : In-loop-l) (e : ℕ) → let s = c.before.before in
     to_z w32 (of_z w32 (at s.args.v.now e)) ≡ at s.args.v.now e
 part c e = reads w32 (c.before.before.requires.1.small e) tt
 
-rounded : (c : After-rounded →
+rounded : (c : After-rounded) →
     let i = c.before.before.before.before in
     let s = i.before.before in
     to_z w32 (of_z w32 c.rounded.result) ≡ R (rule_by s.args.down s.args.even) unit
@@ -51,7 +51,7 @@ made-z-requires c =
       c.rounded.ensures.1,
     )
 
-value : (c : After-made-z →
+value : (c : After-made-z) →
     let i = c.before.before.before.before.before in
     to_z w32 (of_z w32 c.made-z.result) ≡ Z i.before.before i.before.loop-l.l
 value c =

@@ -8,14 +8,14 @@ use Rattle.passstage.proofs.numbers.turn_row.Goals as goal
 use Rattle.passstage.proofs.numbers.turn_row.Goals.{After-x-1, Else-d-lt0, In-loop-l}
 
 -- the number, which is not turned yet, and the same turned
-number : (c : In-loop-l → let s = c.before.before.before in let l = c.before.loop-l in
+number : (c : In-loop-l) → let s = c.before.before.before in let l = c.before.loop-l in
     to_z w32 (of_z w32 (at l.x-1 (s.args.k + l.l))) ≡ at s.args.x-1.now (s.args.k + l.l)
 number c =
     let s = c.before.before.before in
     let l = c.before.loop-l in
     rw (row-ahead s.args.k l.l _ s.args.x-1.now l.invariant.1) (reads w32 (s.requires.small.small (s.args.k + l.l)) tt)
 
-flips : (c : In-loop-l → let s = c.before.before.before in let z = at s.args.x-1.now
+flips : (c : In-loop-l) → let s = c.before.before.before in let z = at s.args.x-1.now
     (s.args.k + c.before.loop-l.l) in s.args.d *ℤ z ≡ pos 0 -ℤ z
 flips c = let t = c.before.before in let s = t.before in
     sign_below _ s.requires.sign (rw (to_z-of_z s.ranges.d) at t.if-d-lt0.true)

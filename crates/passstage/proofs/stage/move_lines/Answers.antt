@@ -8,7 +8,7 @@ use Rattle.passstage.proofs.stage.move_lines.Goals as goal
 use Rattle.passstage.proofs.stage.move_lines.Goals.{After-move_line, In-loop-l}
 
 -- the line is one of sixteen
-line : (c : In-loop-l → c.before.loop-l.l < most_order
+line : (c : In-loop-l) → c.before.loop-l.l < most_order
 line c = let a = c.before.before.requires.1 in let b = c.loop-l-test.true in omega arith
 
 pub loop-l-preserved : goal.loop-l-preserved

@@ -12,7 +12,7 @@ loop-j-init c =
     (omega arith, parting-none c.requires.0 c.requires.1)
 
 -- column j lies in the block
-column : (i : In-loop-j → i.before.before.args.k + i.before.loop-j.j * 16 + 16 ≤ 256
+column : (i : In-loop-j) → i.before.before.args.k + i.before.loop-j.j * 16 + 16 ≤ 256
 column i = i.before.before.requires.0.places i.before.loop-j.j i.loop-j-test.true
 
 pub add_entry-requires : goal.add_entry-requires

@@ -9,7 +9,7 @@ use Rattle.whole.specs.Machine.{fits, reads, back, within-*}
 use Rattle.passstage.proofs.sums.products.Goals as goal
 use Rattle.passstage.proofs.sums.products.Goals.{After-rest_part, After-whole_part, In-loop-c, Start}
 
-room : (i : In-loop-c →
+room : (i : In-loop-c) →
     (i.before.before.args.k + i.before.loop-c.c < 256) × (i.before.loop-c.c < 16)
 room i =
     let s = i.before.before in
@@ -21,14 +21,14 @@ room i =
 abbrev Z : In-loop-c → ℤ
 Z i = at i.before.before.args.x.now (i.before.before.args.k + i.before.loop-c.c)
 
-number : (i : In-loop-c → Within bound (Z i)
+number : (i : In-loop-c) → Within bound (Z i)
 number i = let s = i.before.before in s.requires.3.small (s.args.k + i.before.loop-c.c)
 
 -- the products
-entry : (s : Start → to_z w32 (of_z w32 s.args.a) ≡ s.args.a
+entry : (s : Start) → to_z w32 (of_z w32 s.args.a) ≡ s.args.a
 entry s = to_z-of_z s.ranges.a
 
-whole-there : (c : After-whole_part → let i = c.before.before in
+whole-there : (c : After-whole_part) → let i = c.before.before in
     to_z w32 (of_z w32 c.whole_part.result) ≡ whole (Z i)
 whole-there c =
     back w32 _ c.whole_part.type_inv ∙ c.whole_part.ensures ∙ rw (reads w32 (number c.before.before) tt)
@@ -39,7 +39,7 @@ overflow_mul-t c =
     let i = c.before.before in
     rw (entry i.before.before, whole-there c) (fits (within-* i.before.before.requires.2 (whole-small (Z i) (number i))) tt)
 
-rest-there : (c : After-rest_part → let i = c.before.before.before.before in
+rest-there : (c : After-rest_part) → let i = c.before.before.before.before in
     to_z w32 (of_z w32 c.rest_part.result) ≡ rest (Z i)
 rest-there c =
     back w32 _ c.rest_part.type_inv ∙ c.rest_part.ensures ∙ rw (reads w32 (number c.before.before.before.before) tt)

@@ -15,7 +15,7 @@ loop-s-init c =
     (omega arith, no_rows c.requires)
 
 -- the row of this turn
-turn : (c : After-nth_undone-i →
+turn : (c : After-nth_undone-i) →
     let l = c.before.before in c.nth_undone-i.result ≡ nth_row Allowance l.before.args.fa l.loop-s.s
 unfolding nth_row is_inverse
 turn c =

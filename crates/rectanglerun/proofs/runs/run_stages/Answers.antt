@@ -22,10 +22,10 @@ S l = l.before
 abbrev T : In-loop-t → ℕ
 T c = let a = (S c.before).args in nth_stage a.run.task (count a.col.now 1) c.before.loop-t.t
 
-in-turn : (c : In-loop-t → c.before.loop-t.t < count (S c.before).args.col.now 1
+in-turn : (c : In-loop-t) → c.before.loop-t.t < count (S c.before).args.col.now 1
 in-turn c = let m = (S c.before).pre.6 in omega arith
 
-agree : (c : In-loop-t → let a = (S c.before).args in count a.row.now 1 ≡ count a.col.now 1
+agree : (c : In-loop-t) → let a = (S c.before).args in count a.row.now 1 ≡ count a.col.now 1
 agree c = counts-agree _ _ (S c.before).pre.0.match
 
 pub nth_start-j-requires : goal.nth_start-j-requires
@@ -34,7 +34,7 @@ nth_start-j-requires c =
     let i = c.before in let s = S i.before in (s.pre.0.row, s.pre.2, rw (agree i) (in-turn i))
 
 -- where its factor of the row sheet starts
-row : (c : After-nth_start-j → let i = c.before.before in
+row : (c : After-nth_start-j) → let i = c.before.before in
     c.nth_start-j.result ≡ start (S i.before).args.row.now (T i)
 row c = c.nth_start-j.ensures ∙ rw (agree c.before.before)
 
@@ -58,7 +58,7 @@ of-orders :
 of-orders run c r v f a b d e h = rw (a, b, d, e) at h
 
 told :
-    (c : After-run_stage-r →
+    (c : After-run_stage-r) →
     let i = c.before.before.before.before in
     let a = (S i.before).args in
     let N = size_of a.col.now a.row.now in

@@ -11,7 +11,7 @@ use Rattle.rectanglerun.proofs.singles.apply_rows_beside.Goals as goal
 use Rattle.rectanglerun.proofs.singles.apply_rows_beside.Goals.{After-apply_beside-arg-1, After-nth_single-i, Else-not-r, Then-not-r}
 
 -- the row of this turn, which is not row r
-turn : (c : After-nth_single-i →
+turn : (c : After-nth_single-i) →
     let t = c.before.before in c.nth_single-i.result ≡ nth_row Forward t.before.args.fa t.loop-s.s
 turn c =
     let t = c.before.before in
@@ -19,7 +19,7 @@ turn c =
     c.nth_single-i.ensures
     ∙ single-applied s.args.fa (s.requires.0.alike ∙ s.requires.1) t.loop-s.s c.before.loop-s-test.true
 
-beside : (c : After-nth_single-i → c.nth_single-i.result ≢ c.before.before.before.args.fa.row
+beside : (c : After-nth_single-i) → c.nth_single-i.result ≢ c.before.before.before.args.fa.row
 beside c =
     let t = c.before.before in
     let f = t.before.args.fa in

@@ -11,20 +11,20 @@ use Rattle.rectanglerun.proofs.singles.undo_rows_beside.Goals as goal
 use Rattle.rectanglerun.proofs.singles.undo_rows_beside.Goals.{After-nth_single-i, After-undo_beside-arg-1, Else-not-r, In-loop-s, Then-not-r}
 
 -- the turn is not the last
-early : (c : In-loop-s → c.before.loop-s.s < c.before.before.args.fa.order - 1
+early : (c : In-loop-s) → c.before.loop-s.s < c.before.before.args.fa.order - 1
 early c = c.loop-s-test.true
 
-below : (c : In-loop-s → c.before.loop-s.s < c.before.before.args.fa.order
+below : (c : In-loop-s) → c.before.loop-s.s < c.before.before.args.fa.order
 below c = let h = early c in omega arith
 
 -- the row of this turn, which is not row r
-turn : (c : After-nth_single-i →
+turn : (c : After-nth_single-i) →
     let t = c.before.before in c.nth_single-i.result ≡ nth_row Inverse t.before.args.fa t.loop-s.s
 turn c =
     let t = c.before.before in
     let s = t.before in c.nth_single-i.ensures ∙ single-undone s.args.fa (s.requires.0.alike ∙ s.requires.1) t.loop-s.s
 
-beside : (c : After-nth_single-i → c.nth_single-i.result ≢ c.before.before.before.args.fa.row
+beside : (c : After-nth_single-i) → c.nth_single-i.result ≢ c.before.before.before.args.fa.row
 beside c =
     let t = c.before.before in
     let f = t.before.args.fa in

@@ -15,7 +15,7 @@ loop-s-init c =
     (omega arith, no_rows c.requires.0)
 
 -- the row of this turn
-turn : (i : In-loop-s → i.before.loop-s.s ≡ nth_row Forward i.before.before.args.fa i.before.loop-s.s
+turn : (i : In-loop-s) → i.before.loop-s.s ≡ nth_row Forward i.before.before.args.fa i.before.loop-s.s
 turn i =
     let s = i.before.before in
     upper-applied s.args.fa i.before.loop-s.s (s.requires.0.alike ∙ s.requires.1) i.loop-s-test.true

@@ -15,7 +15,7 @@ loop-s-init c =
     (omega arith, no_rows c.requires.0)
 
 -- the row of this turn
-turn : (i : In-loop-s →
+turn : (i : In-loop-s) →
     i.before.before.args.fa.order - 1 - i.before.loop-s.s
     ≡ nth_row Inverse i.before.before.args.fa i.before.loop-s.s
 turn i =

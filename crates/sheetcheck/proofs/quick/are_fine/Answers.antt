@@ -5,7 +5,7 @@ use Rattle.sheetcheck.proofs.quick.are_fine.Goals as goal
 use Rattle.sheetcheck.proofs.quick.are_fine.Goals.{After-fault_of-faults, After-loop-k}
 
 -- the fault of this turn
-small : (c : After-fault_of-faults → c.fault_of-faults.result ≤ 8
+small : (c : After-fault_of-faults) → c.fault_of-faults.result ≤ 8
 small c =
     let a = c.before.before.before.args in
     rw c.fault_of-faults.ensures (fault-most a.sheet.now a.what _)

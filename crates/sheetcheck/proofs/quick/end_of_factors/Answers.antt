@@ -29,7 +29,7 @@ loop-f-init c =
     )
 
 -- the table has room
-few : (c : In-loop-f → c.before.loop-f.f < 32
+few : (c : In-loop-f) → c.before.loop-f.f < 32
 few c =
     let m = (count-ranged c.before.before.before.before.requires.0.count).most in omega (arith, c.before.loop-f.invariant.2)
 

@@ -10,7 +10,7 @@ use Rattle.sheetcheck.proofs.quick.end_of_places.Goals.{After-count_at-place, Af
 
 -- a number of 0 to n - 1
 row :
-    (c : Else-fault_of-ne0 →
+    (c : Else-fault_of-ne0) →
     let l = c.before.before.before in
     let a = l.before.before.before.args in Seen a.sheet.now (Row a.n) (a.p + l.loop-k.k)
 row c = one-fine _ _ _ (omega arith) (sym c.before.fault_of.ensures ∙ c.if-fault_of-ne0.false)
@@ -20,7 +20,7 @@ count_at-place-requires c =
     let c = (goal.at.count_at-place-requires c).Else-fault_of-ne0 in
     row_counts (row c)
 
-low : (c : After-count_at-place → c.count_at-place.result < 16
+low : (c : After-count_at-place) → c.count_at-place.result < 16
 low c = let b = (row_is (row c.before)).1 in omega (arith, c.count_at-place.ensures)
 
 pub bounds-used-place : goal.bounds-used-place

@@ -33,7 +33,7 @@ loop-f-init c =
     )
 
 -- the table has room
-few : (c : In-loop-f → c.before.loop-f.f < 32
+few : (c : In-loop-f) → c.before.loop-f.f < 32
 few c =
     let m = (count-ranged c.before.before.before.before.requires.0.count).most in omega (arith, c.before.loop-f.invariant.2)
 
@@ -60,14 +60,14 @@ read_factor-r-requires c =
 
 -- the factor at i, of the sheet's order
 here :
-    (c : After-read_factor-r →
+    (c : After-read_factor-r) →
     let l = c.before.before in
     let s = l.before.before.before.args.sheet.now in c.read_factor-r.result ≡ factor s (count s 0) l.loop-f.i
 here c = rw c.before.before.loop-f.invariant.1 at c.read_factor-r.ensures
 
 -- it is one of those that are left
 among :
-    (c : In-loop-f → c.before.loop-f.f < count c.before.before.before.before.args.sheet.now 1
+    (c : In-loop-f) → c.before.loop-f.f < count c.before.before.before.before.args.sheet.now 1
 among c = rw c.before.loop-f.invariant.2 at c.loop-f-test.true
 
 pub returns-then-r-ne0 : goal.returns-then-r-ne0

@@ -19,7 +19,7 @@ use Rattle.trianglerows.proofs.applied.apply_upper.Goals.{After-applied_whole-ar
 abbrev S : In-loop-j → Start
 S c = c.before.before.before
 
-first-at : (c : After-before_upper →
+first-at : (c : After-before_upper) →
     c.before.args.f.entries + c.before_upper.result ≡ (row_of c.before.args.f c.before.args.from).at
 first-at c =
     let s = c.before in
@@ -42,25 +42,25 @@ loop-j-init c =
     (omega arith, (let a = s.requires.3 in omega arith), rw z, s.requires.0.4, first-at c)
 
 -- the element in turn is one of the row
-inside : (c : In-loop-j → c.before.loop-j.j < (S c).args.f.order
+inside : (c : In-loop-j) → c.before.loop-j.j < (S c).args.f.order
 inside c = let h = c.loop-j-test.true in let l = (S c).requires.4 in omega arith
 
 -- its place
-room : (c : In-loop-j → (S c).args.k + c.before.loop-j.j < 256
+room : (c : In-loop-j) → (S c).args.k + c.before.loop-j.j < 256
 room c = let h = inside c in let k = (S c).requires.0.3 in omega arith
 
 -- its sum, its sign and its number
-total : (c : After-upper_total-s →
+total : (c : After-upper_total-s) →
     let i = c.before in
     to_z w64 (of_z w64 c.upper_total-s.result) ≡ total_of (S i).args.row.now (S i).args.f i.before.loop-j.j (S i).args.v.now
 total c = back w64 _ c.upper_total-s.type_inv ∙ c.upper_total-s.ensures
 
-sign : (c : After-sign_at →
+sign : (c : After-sign_at) →
     let i = c.before.before in
     to_z w32 (of_z w32 c.sign_at.result) ≡ sign_at (S i).args.row.now (S i).args.f i.before.loop-j.j
 sign c = back w32 _ c.sign_at.type_inv ∙ c.sign_at.ensures
 
-number : (c : In-loop-j →
+number : (c : In-loop-j) →
     to_z w32 (of_z w32 (at c.before.loop-j.x ((S c).args.k + c.before.loop-j.j)))
     ≡ at c.before.loop-j.x ((S c).args.k + c.before.loop-j.j)
 number c = reads w32 (c.before.loop-j.invariant.3.small _) tt
@@ -85,7 +85,7 @@ F c =
     applied_in (rule_by a.down a.even) a.row.now a.f (to_z w32 (of_z w32 a.d)) a.v.now a.k c.before.loop-j.x
     (a.k + c.before.loop-j.j)
 
-value : (c : After-applied_whole-z →
+value : (c : After-applied_whole-z) →
     to_z w64 (of_z w64 c.applied_whole-z.result) ≡ F c.before.before.before.before
 value c =
     let i = c.before.before.before.before in
@@ -113,7 +113,7 @@ returns-then-not-is_within c =
       keeps = ap length l.inv.2 ∙ length-in-place _ _ (l.j - s.args.from) _;
     }
 
-held : (c : Else-not-is_within → Within bound (F (c.before.before.before.before.before.before))
+held : (c : Else-not-is_within) → Within bound (F (c.before.before.before.before.before.before))
 held c = test-yes bound (value c.before.before) c.before.is_within.ensures (not-false _ c.if-not-is_within.false)
 
 pub loop-j-preserved : goal.loop-j-preserved

@@ -20,7 +20,7 @@ use Rattle.trianglerows.proofs.undone.undo_lower.Goals.{After-before_lower, Afte
 abbrev S : In-loop-j → Start
 S c = c.before.before.before.before.before
 
-first-at : (c : After-before_lower →
+first-at : (c : After-before_lower) →
     c.before.args.fb.entries + c.before_lower.result ≡ (row_of c.before.args.fb c.before.args.from).at
 first-at c =
     let s = c.before in
@@ -42,34 +42,34 @@ loop-j-init c =
     (omega arith, undoing-starts s.requires.0, first-at c.before.before, back w64 _ c.left_of-last.type_inv ∙ c.left_of-last.ensures)
 
 -- the element in turn is one of the row
-inside : (c : In-loop-j → c.before.loop-j.j < (S c).args.fb.order
+inside : (c : In-loop-j) → c.before.loop-j.j < (S c).args.fb.order
 inside c = let h = c.loop-j-test.true in let l = (S c).requires.3 in omega arith
 
 -- its place
 abbrev P : In-loop-j → ℕ
 P c = (S c).args.i * (S c).args.fb.order + c.before.loop-j.j
 
-room : (c : In-loop-j → P c < 256
+room : (c : In-loop-j) → P c < 256
 room c = let g = (S c).requires.0 in in_block c.before.loop-j.j g.column.order g.row.order g.below (inside c)
 
 -- the sign of its row, its sum, its own sign and its number
 abbrev D : In-loop-j → ℤ
 D c = sign_at (S c).args.col.now (S c).args.fa (S c).args.i
 
-row-sign : (c : After-sign_at-d → to_z w32 (of_z w32 c.sign_at-d.result) ≡ D c.before
+row-sign : (c : After-sign_at-d) → to_z w32 (of_z w32 c.sign_at-d.result) ≡ D c.before
 row-sign c = back w32 _ c.sign_at-d.type_inv ∙ c.sign_at-d.ensures
 
-total : (c : After-lower_total-s →
+total : (c : After-lower_total-s) →
     let i = c.before.before.before in
     to_z w64 (of_z w64 c.lower_total-s.result) ≡ total_of (S i).args.row.now (S i).args.fb i.before.loop-j.j i.before.loop-j.v
 total c = back w64 _ c.lower_total-s.type_inv ∙ c.lower_total-s.ensures
 
-sign : (c : After-sign_at →
+sign : (c : After-sign_at) →
     let i = c.before.before.before.before in
     to_z w32 (of_z w32 c.sign_at.result) ≡ sign_at (S i).args.row.now (S i).args.fb i.before.loop-j.j
 sign c = back w32 _ c.sign_at.type_inv ∙ c.sign_at.ensures
 
-number : (c : In-loop-j → to_z w32 (of_z w32 (at c.before.loop-j.x (P c))) ≡ at c.before.loop-j.x (P c)
+number : (c : In-loop-j) → to_z w32 (of_z w32 (at c.before.loop-j.x (P c))) ≡ at c.before.loop-j.x (P c)
 number c = reads w32 (c.before.loop-j.invariant.1.small.small _) tt
 
 pub undone_whole-z-requires : goal.undone_whole-z-requires
@@ -92,12 +92,12 @@ F c =
     (P c)
 
 -- its turn
-turn : (c : In-loop-j →
+turn : (c : In-loop-j) →
     let f = (S c).args.fb in nth_undone f.kind f.order f.row c.before.loop-j.j ≡ c.before.loop-j.j
 turn c = lower-turn (S c).args.fb c.before.loop-j.j (S c).requires.1
 
 value :
-    (c : After-undone_whole-z → to_z w64 (of_z w64 c.undone_whole-z.result) ≡ F c.before.before.before.before.before.before
+    (c : After-undone_whole-z) → to_z w64 (of_z w64 c.undone_whole-z.result) ≡ F c.before.before.before.before.before.before
 value c =
     let i = c.before.before.before.before.before.before in
     back w64 _ c.undone_whole-z.type_inv ∙ c.undone_whole-z.ensures
@@ -116,11 +116,11 @@ returns-then-not-is_within c =
     undoing-stops (S i).requires.0 i.before.loop-j.invariant.1 (inside i) (inside i) (turn i) (S i).args.to i.loop-j-test.true
     (test-no bound (value c.before.before) c.before.is_within.ensures (not-true _ c.if-not-is_within.true))
 
-held : (c : Else-not-is_within → Within bound (F c.before.before.before.before.before.before.before.before)
+held : (c : Else-not-is_within) → Within bound (F c.before.before.before.before.before.before.before.before)
 held c = test-yes bound (value c.before.before) c.before.is_within.ensures (not-false _ c.if-not-is_within.false)
 
 -- its column
-column : (c : In-loop-j → c.before.loop-j.j < 16
+column : (c : In-loop-j) → c.before.loop-j.j < 16
 column c = let h = inside c in let o = (S c).requires.0.row.order in omega arith
 
 pub with_diagonal-last-requires : goal.with_diagonal-last-requires
@@ -138,7 +138,7 @@ abbrev G : In-loop-j → ℤ
 G c = at c.before.loop-j.v c.before.loop-j.j +ℤ (diagonal_of (D c) *ℤ F c)
 
 sum_is :
-    (c : After-with_diagonal-last → to_z w64 (of_z w64 c.with_diagonal-last.result) ≡ G c.before.before.before.before.before.before.before.before.before.before
+    (c : After-with_diagonal-last) → to_z w64 (of_z w64 c.with_diagonal-last.result) ≡ G c.before.before.before.before.before.before.before.before.before.before
 sum_is c =
     let e = c.before.before in
     let i = e.before.before.before.before.before.before.before.before in

@@ -22,7 +22,7 @@ abbrev S : In-loop-t → Start
 S c = c.before.before.before.before.before
 
 -- where the row after the first one's starts
-first-at : (c : After-before_upper →
+first-at : (c : After-before_upper) →
     c.before.args.fb.entries + c.before_upper.result + c.before.args.from
     ≡ c.before.args.fb.entries + above c.before.args.fb.order (c.before.args.fb.order - c.before.args.from)
 first-at c =
@@ -32,7 +32,7 @@ first-at c =
     ∙ (let g = above_step s.args.fb.order s.args.from h in omega arith)
 
 -- its entries lie in the sheet
-first-room : (c : After-before_upper →
+first-room : (c : After-before_upper) →
     c.before.args.fb.entries + c.before_upper.result + c.before.args.from ≤ length c.before.args.row.now
 first-room c =
     let s = c.before in
@@ -69,15 +69,15 @@ abbrev J : In-loop-t → ℕ
 J c = (S c).args.n - 1 - c.before.loop-t.t
 
 -- the element in turn is one of the row
-inside : (c : In-loop-t → J c < (S c).args.fb.order
+inside : (c : In-loop-t) → J c < (S c).args.fb.order
 inside c = let h = c.loop-t-test.true in let l = (S c).requires.3 in let e = (S c).requires.4 in omega arith
 
 -- and its turn
-in-turn : (c : In-loop-t → c.before.loop-t.t < (S c).args.fb.order
+in-turn : (c : In-loop-t) → c.before.loop-t.t < (S c).args.fb.order
 in-turn c = let h = c.loop-t-test.true in let l = (S c).requires.3 in omega arith
 
 -- its entries
-entries_at : (c : In-loop-t → c.before.loop-t.p ≡ (row_of (S c).args.fb (J c)).at + c.before.loop-t.t
+entries_at : (c : In-loop-t) → c.before.loop-t.p ≡ (row_of (S c).args.fb (J c)).at + c.before.loop-t.t
 entries_at c =
     let s = S c in
     let l = c.before.loop-t in
@@ -109,27 +109,27 @@ upper_total-s-requires c =
 abbrev P : In-loop-t → ℕ
 P c = (S c).args.i * (S c).args.fb.order + J c
 
-room : (c : In-loop-t → P c < 256
+room : (c : In-loop-t) → P c < 256
 room c = let g = (S c).requires.0 in in_block (J c) g.column.order g.row.order g.below (inside c)
 
 -- the sign of its row, its sum, its own sign and its number
 abbrev D : In-loop-t → ℤ
 D c = sign_at (S c).args.col.now (S c).args.fa (S c).args.i
 
-row-sign : (c : After-sign_at-d → to_z w32 (of_z w32 c.sign_at-d.result) ≡ D c.before
+row-sign : (c : After-sign_at-d) → to_z w32 (of_z w32 c.sign_at-d.result) ≡ D c.before
 row-sign c = back w32 _ c.sign_at-d.type_inv ∙ c.sign_at-d.ensures
 
-total : (c : After-upper_total-s →
+total : (c : After-upper_total-s) →
     let i = c.before.before.before in
     to_z w64 (of_z w64 c.upper_total-s.result) ≡ total_of (S i).args.row.now (S i).args.fb (J i) i.before.loop-t.v
 total c = back w64 _ c.upper_total-s.type_inv ∙ c.upper_total-s.ensures
 
-sign : (c : After-sign_at →
+sign : (c : After-sign_at) →
     let i = c.before.before.before.before in
     to_z w32 (of_z w32 c.sign_at.result) ≡ sign_at (S i).args.row.now (S i).args.fb (J i)
 sign c = back w32 _ c.sign_at.type_inv ∙ c.sign_at.ensures
 
-number : (c : In-loop-t → to_z w32 (of_z w32 (at c.before.loop-t.x (P c))) ≡ at c.before.loop-t.x (P c)
+number : (c : In-loop-t) → to_z w32 (of_z w32 (at c.before.loop-t.x (P c))) ≡ at c.before.loop-t.x (P c)
 number c = reads w32 (c.before.loop-t.invariant.1.small.small _) tt
 
 pub undone_whole-z-requires : goal.undone_whole-z-requires
@@ -152,13 +152,13 @@ F c =
     (P c)
 
 -- its turn
-turn : (c : In-loop-t →
+turn : (c : In-loop-t) →
     let f = (S c).args.fb in nth_undone f.kind f.order f.row c.before.loop-t.t ≡ J c
 turn c =
     upper-turn (S c).args.fb c.before.loop-t.t (S c).requires.1 ∙ (let e = (S c).requires.4 in let h = in-turn c in omega arith)
 
 value :
-    (c : After-undone_whole-z → to_z w64 (of_z w64 c.undone_whole-z.result) ≡ F c.before.before.before.before.before.before
+    (c : After-undone_whole-z) → to_z w64 (of_z w64 c.undone_whole-z.result) ≡ F c.before.before.before.before.before.before
 value c =
     let i = c.before.before.before.before.before.before in
     back w64 _ c.undone_whole-z.type_inv ∙ c.undone_whole-z.ensures
@@ -177,7 +177,7 @@ returns-then-not-is_within c =
     undoing-stops (S i).requires.0 i.before.loop-t.invariant.1 (in-turn i) (inside i) (turn i) (S i).args.to i.loop-t-test.true
     (test-no bound (value c.before.before) c.before.is_within.ensures (not-true _ c.if-not-is_within.true))
 
-held : (c : Else-not-is_within → Within bound (F c.before.before.before.before.before.before.before.before)
+held : (c : Else-not-is_within) → Within bound (F c.before.before.before.before.before.before.before.before)
 held c = test-yes bound (value c.before.before) c.before.is_within.ensures (not-false _ c.if-not-is_within.false)
 
 pub bounds-x-k-in-loop-t : goal.bounds-x-k-in-loop-t
@@ -186,7 +186,7 @@ bounds-x-k-in-loop-t c =
     room c.before.before.before.before.before.before.before.before
 
 -- its column
-column : (c : In-loop-t → J c < 16
+column : (c : In-loop-t) → J c < 16
 column c = let h = inside c in let o = (S c).requires.0.row.order in omega arith
 
 pub with_diagonal-last-requires : goal.with_diagonal-last-requires
@@ -204,7 +204,7 @@ abbrev G : In-loop-t → ℤ
 G c = at c.before.loop-t.v (J c) +ℤ (diagonal_of (D c) *ℤ F c)
 
 sum_is :
-    (c : After-with_diagonal-last → to_z w64 (of_z w64 c.with_diagonal-last.result) ≡ G c.before.before.before.before.before.before.before.before.before.before
+    (c : After-with_diagonal-last) → to_z w64 (of_z w64 c.with_diagonal-last.result) ≡ G c.before.before.before.before.before.before.before.before.before.before
 sum_is c =
     let e = c.before.before in
     let i = e.before.before.before.before.before.before.before.before in
@@ -216,7 +216,7 @@ sum_is c =
     )
 
 -- the row before it starts where its entries end
-next-at : (c : In-loop-t →
+next-at : (c : In-loop-t) →
     c.before.loop-t.p - c.before.loop-t.t
     ≡ (S c).args.fb.entries + above (S c).args.fb.order ((S c).args.fb.order - (c.before.loop-t.t + 1))
 next-at c =
@@ -227,7 +227,7 @@ next-at c =
     rw e (omega arith)
 
 -- the latest sum is its column's
-here : (c : In-loop-t → length c.before.loop-t.v ≡ 16 →
+here : (c : In-loop-t) → length c.before.loop-t.v ≡ 16 →
     at (set c.before.loop-t.v (J c) (G c)) ((S c).args.n - suc c.before.loop-t.t) ≡ G c
 here c h =
     let e : (S c).args.n - suc c.before.loop-t.t ≡ J c = omega arith in
