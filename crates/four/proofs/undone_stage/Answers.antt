@@ -12,7 +12,7 @@ use Rattle.rules.specs.declared.Item.TheVariants.{Row}
 use Rattle.rules.specs.declared.Kind.TheVariants.{Lower, Upper, Single}
 use Rattle.rules.specs.declared.Rule.{Rule}
 use Rattle.four.proofs.undone_stage.Goals as goal
-use Rattle.four.proofs.undone_stage.Goals.{After-count_at, After-lower, After-single, After-undone, After-upper, In-Lower, In-Single, In-Upper, Start}
+use Rattle.four.proofs.undone_stage.Goals.{In-Single, Start}
 
 -- Each arm is the stage of its kind.
 -- the rule of the two tests
@@ -22,77 +22,55 @@ K s = rule_by s.args.down s.args.even
 len : (s : Start) → length s.args.y ≡ 4
 len s = search rules
 
-enum_told : tie.Need-enum-told
-enum_told c = search rules
-
 pub returns-in-Permutation : goal.returns-in-Permutation
 returns-in-Permutation c =
-    let c = (goal.at.returns-in-Permutation c).After-undone in
-    let e = c.before in
-    let s = e.before.before.before in
-    became-is (moved-is (K s) true s.args.sheet.now s.args.i s.args.y
-    (sym e.before.before.kind_at-kind.ensures ∙ e.enum_told-1.given.1)) c.undone.ensures
+    became-is (moved-is (K (goal.at.returns-in-Permutation c).Start) true c.args.sheet.now c.args.i c.args.y
+    (sym c.kind_at-kind.ensures ∙ c.in-Permutation.is)) c.undone.ensures
 
 pub lower-requires : goal.lower-requires
 unfolding signs_at entries_of triangle
 lower-requires c =
-    let c = (goal.at.lower-requires c).In-Lower in
-    let s = c.before.before.before in (
-      factor-in s.requires.0 Lower (λ e. never (cc)) (sym c.before.before.kind_at-kind.ensures ∙ c.enum_told-in-Lower-1.given.1),
-      s.requires.1,
+    (
+      factor-in c.requires.0 Lower (λ e. never (cc)) (sym c.kind_at-kind.ensures ∙ c.in-Lower.is),
+      c.requires.1,
     )
 
 pub returns-in-Lower : goal.returns-in-Lower
 returns-in-Lower c =
-    let c = (goal.at.returns-in-Lower c).After-lower in
-    let e = c.before in
-    let s = e.before.before.before in
-    became-is (lower-is (K s) true s.args.sheet.now s.args.i s.args.y (len s)
-    (sym e.before.before.kind_at-kind.ensures ∙ e.enum_told-in-Lower-1.given.1)) c.lower.ensures
+    became-is (lower-is (K (goal.at.returns-in-Lower c).Start) true c.args.sheet.now c.args.i c.args.y (len (goal.at.returns-in-Lower c).Start)
+    (sym c.kind_at-kind.ensures ∙ c.in-Lower.is)) c.lower.ensures
 
 pub upper-requires : goal.upper-requires
 unfolding signs_at entries_of triangle
 upper-requires c =
-    let c = (goal.at.upper-requires c).In-Upper in
-    let s = c.before.before.before in (
-      factor-in s.requires.0 Upper (λ e. never (cc)) (sym c.before.before.kind_at-kind.ensures ∙ c.enum_told-in-Upper-1.given.1),
-      s.requires.1,
+    (
+      factor-in c.requires.0 Upper (λ e. never (cc)) (sym c.kind_at-kind.ensures ∙ c.in-Upper.is),
+      c.requires.1,
     )
 
 pub returns-in-Upper : goal.returns-in-Upper
 returns-in-Upper c =
-    let c = (goal.at.returns-in-Upper c).After-upper in
-    let e = c.before in
-    let s = e.before.before.before in
-    became-is (upper_is (K s) true s.args.sheet.now s.args.i s.args.y (len s)
-    (sym e.before.before.kind_at-kind.ensures ∙ e.enum_told-in-Upper-1.given.1)) c.upper.ensures
+    became-is (upper_is (K (goal.at.returns-in-Upper c).Start) true c.args.sheet.now c.args.i c.args.y (len (goal.at.returns-in-Upper c).Start)
+    (sym c.kind_at-kind.ensures ∙ c.in-Upper.is)) c.upper.ensures
 
 -- its kind, and its row
-kind : (c : In-Single) → kind_of (count c.before.before.before.args.sheet.now
-    c.before.before.before.args.i) ≡ Single
-kind c = sym c.before.before.kind_at-kind.ensures ∙ c.enum_told-in-Single-1.given.1
+kind : (c : In-Single) → kind_of (count c.args.sheet.now
+    c.args.i) ≡ Single
+kind c = sym c.kind_at-kind.ensures ∙ c.in-Single.is
 
 row :
-    (c : In-Single) → let s = c.before.before.before.args in Seen s.sheet.now (Row 4) (s.i + 1)
-row c = c.before.before.before.requires.0.body.row (kind c)
+    (c : In-Single) → let s = c.args in Seen s.sheet.now (Row 4) (s.i + 1)
+row c = c.requires.0.body.row (kind c)
 
 pub count_at-requires : goal.count_at-requires
-count_at-requires c =
-    let c = (goal.at.count_at-requires c).In-Single in
-    row_counts (row c)
+count_at-requires c =     row_counts (row (goal.at.count_at-requires c).In-Single)
 
 pub single-requires : goal.single-requires
 unfolding signs_at entries_of
 single-requires c =
-    let c = (goal.at.single-requires c).After-count_at in
-    let e = c.before in
-    let s = e.before.before.before in
-    (factor-in s.requires.0 Single (λ e. never (cc)) (kind e), rw c.count_at.ensures (row_is (row e)).1, s.requires.1)
+    (factor-in c.requires.0 Single (λ (goal.at.single-requires c).In-Single. never (cc)) (kind (goal.at.single-requires c).In-Single), rw c.count_at.ensures (row_is (row (goal.at.single-requires c).In-Single)).1, c.requires.1)
 
 pub returns-in-Single : goal.returns-in-Single
 returns-in-Single c =
-    let c = (goal.at.returns-in-Single c).After-single in
-    let e = c.before.before in
-    let s = e.before.before.before in
-    became-is (single-is (K s) true s.args.sheet.now s.args.i s.args.y (len s) (kind e) _
-    (rw c.before.count_at.ensures (row_is (row e)).1) (sym c.before.count_at.ensures)) c.single.ensures
+    became-is (single-is (K (goal.at.returns-in-Single c).Start) true c.args.sheet.now c.args.i c.args.y (len (goal.at.returns-in-Single c).Start) (kind (goal.at.returns-in-Single c).In-Single) _
+    (rw c.count_at.ensures (row_is (row (goal.at.returns-in-Single c).In-Single)).1) (sym c.count_at.ensures)) c.single.ensures

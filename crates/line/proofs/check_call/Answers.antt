@@ -5,58 +5,45 @@ use Rattle.laws.specs.Accepted.{Accepted, accepted-read, order-counts}
 use Rattle.rules.specs.Calls.{line}
 use Rattle.rules.specs.declared.Answer.{Answer}
 use Rattle.line.proofs.check_call.Goals as goal
-use Rattle.line.proofs.check_call.Goals.{After-check_lengths, After-check_starts-c, Else-c-ne0, Then-a-ne0, Then-c-ne0}
+use Rattle.line.proofs.check_call.Goals.{After-check_lengths, After-check_starts-c, Else-c-ne0}
 
 pub returns-then-a-ne0 : goal.returns-then-a-ne0
 returns-then-a-ne0 c =
-    let c = (goal.at.returns-then-a-ne0 c).Then-a-ne0 in
-    let k = c.before.before in
-    let a = k.before.args in (
-      rule-stops a.rule a.task (line a.s.now) _ _ k.check_rule-a.ensures c.if-a-ne0.true,
+    let a = c.args in (
+      rule-stops a.rule a.task (line a.s.now) _ _ c.check_rule-a.ensures c.if-a-ne0.true,
       λ e. absurd (c.if-a-ne0.true e),
     )
 
 -- what the sheet told
 sheets : (c : After-check_starts-c) →
-    c.check_starts-c.result ≡ (line c.before.before.before.before.before.args.s.now).sheets
+    c.check_starts-c.result ≡ (line c.args.s.now).sheets
 unfolding line
 sheets c = c.check_starts-c.ensures.0
 
 pub returns-then-c-ne0 : goal.returns-then-c-ne0
 returns-then-c-ne0 c =
-    let c = (goal.at.returns-then-c-ne0 c).Then-c-ne0 in
-    let h = c.before.before in
-    let e = h.before.before in
-    let k = e.before.before in
-    let a = k.before.args in (
-      sheets-stop a.rule a.task (line a.s.now) _ _ k.check_rule-a.ensures e.if-a-ne0.false (sheets h) c.if-c-ne0.true,
+    let a = c.args in (
+      sheets-stop a.rule a.task (line a.s.now) _ _ c.check_rule-a.ensures c.if-a-ne0.false (sheets (goal.at.returns-then-c-ne0 c).After-check_starts-c) c.if-c-ne0.true,
       λ z. absurd (c.if-c-ne0.true z),
     )
 
-fine : (c : Else-c-ne0) → Accepted c.before.before.before.before.before.before.before.args.s.now
-fine c = accepted-read _ (ap (λ (a : Answer). a.number) (sym c.before.before.check_starts-c.ensures.0) ∙ c.if-c-ne0.false)
+fine : (c : Else-c-ne0) → Accepted c.args.s.now
+fine c = accepted-read _ (ap (λ (a : Answer). a.number) (sym c.check_starts-c.ensures.0) ∙ c.if-c-ne0.false)
 
 pub count_at-requires : goal.count_at-requires
-count_at-requires c =
-    let c = (goal.at.count_at-requires c).Else-c-ne0 in
-    order-counts (fine c)
+count_at-requires c =     order-counts (fine (goal.at.count_at-requires c).Else-c-ne0)
 
 -- what the lengths told, of the plan's size
 told : (c : After-check_lengths) →
-    let a = c.before.before.before.before.before.before.before.before.before.args in
+    let a = c.args in
     c.check_lengths.result ≡ lengths_of a.task (line a.s.now).size a.x a.y
 unfolding line
-told c = c.check_lengths.ensures ∙ rw c.before.count_at.ensures
+told c = c.check_lengths.ensures ∙ rw c.count_at.ensures
 
 pub returns : goal.returns
 returns c =
-    let c = (goal.at.returns c).After-check_lengths in
-    let f = c.before.before in
-    let h = f.before.before in
-    let e = h.before.before in
-    let k = e.before.before in
-    let a = k.before.args in (
-      lengths-left a.rule a.task (line a.s.now) _ _ k.check_rule-a.ensures e.if-a-ne0.false (sheets h) f.if-c-ne0.false
-          (told c),
-      λ z. h.check_starts-c.ensures.1 f.if-c-ne0.false,
+    let a = c.args in (
+      lengths-left a.rule a.task (line a.s.now) _ _ c.check_rule-a.ensures c.if-a-ne0.false (sheets (goal.at.returns c).After-check_starts-c) c.if-c-ne0.false
+          (told (goal.at.returns c).After-check_lengths),
+      λ z. c.check_starts-c.ensures.1 c.if-c-ne0.false,
     )

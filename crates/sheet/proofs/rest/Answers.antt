@@ -5,30 +5,24 @@ use Rattle.laws.specs.Accepted.{reading-inside}
 use Rattle.rules.specs.Sheets.{reading}
 use Rattle.rules.specs.declared.Mark.{Mark}
 use Rattle.sheet.proofs.rest.Goals as goal
-use Rattle.sheet.proofs.rest.Goals.{Then-c-ne0, Then-r-ne0}
 
 placed : (s : List ℤ) {r : Mark} → r ≡ reading s → r.place ≤ length s
 placed s e = rw e (reading-inside s)
 
 pub offset_bounds-col-p : goal.offset_bounds-col-p
 offset_bounds-col-p c =
-    let c = (goal.at.offset_bounds-col-p c).Then-c-ne0 in
-    let h = placed c.before.before.before.args.col.now c.before.before.read_whole-c.ensures in
+    let h = placed c.args.col.now c.read_whole-c.ensures in
     search rules
 
 pub slice_bounds-result-count : goal.slice_bounds-result-count
-slice_bounds-result-count c =
-    let c = (goal.at.slice_bounds-result-count c).Then-c-ne0 in
-    placed c.before.before.before.args.col.now c.before.before.read_whole-c.ensures
+slice_bounds-result-count c =     placed c.args.col.now c.read_whole-c.ensures
 
 pub offset_bounds-row-p : goal.offset_bounds-row-p
 offset_bounds-row-p c =
-    let c = (goal.at.offset_bounds-row-p c).Then-r-ne0 in
-    let h = placed c.before.before.before.before.before.before.args.row.now
-    c.before.before.read_whole-r.ensures in
+    let h = placed c.args.row.now
+    c.read_whole-r.ensures in
     search rules
 
 pub slice_bounds-result-count-then-r-ne0 : goal.slice_bounds-result-count-then-r-ne0
 slice_bounds-result-count-then-r-ne0 c =
-    let c = (goal.at.slice_bounds-result-count-then-r-ne0 c).Then-r-ne0 in
-    placed c.before.before.before.before.before.before.args.row.now c.before.before.read_whole-r.ensures
+    placed c.args.row.now c.read_whole-r.ensures

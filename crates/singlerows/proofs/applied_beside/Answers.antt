@@ -13,27 +13,23 @@ use Rattle.singlerows.proofs.applied_beside.Goals.{After-rounded_beside, After-s
 product : (s : Start) → Sign (s.args.d *ℤ at s.args.g.now s.args.q)
 product s = both-sign s.requires.0 s.args.q s.requires.2
 
-sign : (c : After-sign_in) → let s = c.before in
-    to_z w32 (of_z w32 c.sign_in.result) ≡ s.args.d *ℤ at s.args.g.now s.args.q
-sign c = back w32 _ c.sign_in.type_inv ∙ c.sign_in.ensures ∙ rw (to_z-of_z c.before.ranges.d)
+sign : (c : After-sign_in) → to_z w32 (of_z w32 c.sign_in.result) ≡ c.args.d *ℤ at c.args.g.now c.args.q
+sign c = back w32 _ c.sign_in.type_inv ∙ c.sign_in.ensures ∙ rw (to_z-of_z c.ranges.d)
 
-rounded : (c : After-rounded_beside) → let s = c.before.before.before in
-    to_z w64 (of_z w64 c.rounded_beside.result)
-    ≡ R (rule_by s.args.down s.args.even) unit (s.args.d *ℤ narrow_sum s.args.w.now s.args.x.now s.args.k
-    s.args.n)
+rounded : (c : After-rounded_beside) → to_z w64 (of_z w64 c.rounded_beside.result)
+    ≡ R (rule_by c.args.down c.args.even) unit (c.args.d *ℤ narrow_sum c.args.w.now c.args.x.now c.args.k
+    c.args.n)
 rounded c =
     back w64 _ c.rounded_beside.type_inv ∙ c.rounded_beside.ensures
-    ∙ rw (to_z-of_z c.before.before.before.ranges.d)
+    ∙ rw (to_z-of_z c.ranges.d)
 
 number : (s : Start) → Within bound (at s.args.x.now (s.args.k + s.args.q))
 number s = s.requires.0.numbers.small (s.args.k + s.args.q)
 
 pub applied-requires : goal.applied-requires
 applied-requires c =
-    let c = (goal.at.applied-requires c).After-rounded_beside in
-    let s = c.before.before.before in
-    let e = product s in
-    let x = within-sign e (number s) in
-    let q = rounded-sum-small s.requires.1 s.requires.0.sign (rule_by s.args.down s.args.even) in
-    rw (rounded c, sign c.before.before, reads w32 (number s) tt)
-    (fits (sign-within e) tt, fits (number s) tt, fits x tt, fits (within-+ x q) tt)
+    let e = product (goal.at.applied-requires c).Start in
+    let x = within-sign e (number (goal.at.applied-requires c).Start) in
+    let q = rounded-sum-small c.requires.1 c.requires.0.sign (rule_by c.args.down c.args.even) in
+    rw (rounded (goal.at.applied-requires c).After-rounded_beside, sign (goal.at.applied-requires c).After-sign_in, reads w32 (number (goal.at.applied-requires c).Start) tt)
+    (fits (sign-within e) tt, fits (number (goal.at.applied-requires c).Start) tt, fits x tt, fits (within-+ x q) tt)

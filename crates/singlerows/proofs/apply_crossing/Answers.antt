@@ -6,7 +6,7 @@ use Rattle.joint.specs.RowsInPlace.{in_block}
 use Rattle.joint.specs.Triangles.{applied-row}
 use Rattle.whole.specs.Machine.{back}
 use Rattle.singlerows.proofs.apply_crossing.Goals as goal
-use Rattle.singlerows.proofs.apply_crossing.Goals.{After-apply_elements, After-apply_elements-arg-1, After-sign_at, Start}
+use Rattle.singlerows.proofs.apply_crossing.Goals.{After-sign_at, Start}
 
 -- the row lies in the block
 room : (s : Start) → s.args.i * s.args.fb.order + s.args.fb.order ≤ 256
@@ -16,15 +16,14 @@ room s =
     omega arith
 
 sign : (c : After-sign_at) →
-    let s = c.before.before.before.before in
+    let s = c.before in
     to_z w32 (of_z w32 c.sign_at.result) ≡ sign_at s.args.col.now s.args.fa s.args.i
 sign c = back w32 _ c.sign_at.type_inv ∙ c.sign_at.ensures
 
 pub apply_elements-requires : goal.apply_elements-requires
 apply_elements-requires c =
-    let c = (goal.at.apply_elements-requires c).After-apply_elements-arg-1 in
-    let s = c.before.before.before.before.before.before in
-    rw (sign c.before.before, c.before.before.before.sums_at.ensures) (
+    let s = c.before in
+    rw (sign (goal.at.apply_elements-requires c).After-sign_at, c.sums_at.ensures) (
       (
         s.requires.1,
         s.requires.0.sign s.args.i s.requires.2,
@@ -39,8 +38,7 @@ apply_elements-requires c =
 
 pub returns : goal.returns
 returns c =
-    let c = (goal.at.returns c).After-apply_elements in
-    let s = c.before.before.before.before.before.before.before in
+    let s = c.before in
     applied-row (rule_by s.args.down s.args.even) s.args.col.now s.args.fa s.args.row.now s.args.fb
     s.args.i s.args.x.now
-    (rw (sign c.before.before.before, c.before.before.before.before.sums_at.ensures) at c.apply_elements.ensures)
+    (rw (sign (goal.at.returns c).After-sign_at, c.sums_at.ensures) at c.apply_elements.ensures)

@@ -1,6 +1,5 @@
 -- The block is as the turns so far leave it, and all of it is in bound.
 use Rattle.std.proofs.Common.{◌≡◌, sym, ap, ◌∙◌, ◌+◌, ◌<◌, arith, ℤ, length, to_z-of_z, w32, w64, to_z, of_z}
-use borrow.Author.Tests.{not-true, not-false}
 use Rattle.factor.specs.InPlace.{length-in-place}
 use Rattle.factor.specs.Rounding.{rule_by}
 use Rattle.factor.specs.SumBounds.{bounded-set, test-no, test-yes}
@@ -11,43 +10,39 @@ use Rattle.singlerows.specs.SingleRowsInPlace.{row-through, row-beyond, turn-bey
 use Rattle.whole.specs.Diff.{Within}
 use Rattle.whole.specs.Machine.{fits, reads, back}
 use Rattle.singlerows.proofs.apply_elements.Goals as goal
-use Rattle.singlerows.proofs.apply_elements.Goals.{After-applied_whole-arg-1, After-applied_whole-z, After-crossing_total-s, After-loop-j, After-sign_at, Else-not-is_within, In-loop-j, Start, Then-not-is_within}
+use Rattle.singlerows.proofs.apply_elements.Goals.{After-applied_whole-z, After-crossing_total-s, After-sign_at, Else-not-is_within, In-loop-j, Start}
 
 -- what was lent
 abbrev S : In-loop-j → Start
 S c = c.before.before.before
 
 -- the element in turn is one of the row
-inside : (c : In-loop-j) → c.before.loop-j.j < (S c).args.f.order
+inside : (c : In-loop-j) → c.loop-j.j < (S c).args.f.order
 inside c = c.loop-j-test.true
 
 -- its sum, its sign and its number
 total : (c : After-crossing_total-s) →
-    let i = c.before in
     to_z w64 (of_z w64 c.crossing_total-s.result)
-    ≡ total_of (S i).args.row.now (S i).args.f i.before.loop-j.j (S i).args.v.now
+    ≡ total_of (S c.before).args.row.now (S c.before).args.f c.loop-j.j (S c.before).args.v.now
 total c = back w64 _ c.crossing_total-s.type_inv ∙ c.crossing_total-s.ensures
 
 sign : (c : After-sign_at) →
-    let i = c.before.before in
-    to_z w32 (of_z w32 c.sign_at.result) ≡ sign_at (S i).args.row.now (S i).args.f i.before.loop-j.j
+    to_z w32 (of_z w32 c.sign_at.result) ≡ sign_at (S c.before.before).args.row.now (S c.before.before).args.f c.loop-j.j
 sign c = back w32 _ c.sign_at.type_inv ∙ c.sign_at.ensures
 
 number : (c : In-loop-j) →
-    to_z w32 (of_z w32 (at c.before.loop-j.x ((S c).args.k + c.before.loop-j.j)))
-    ≡ at c.before.loop-j.x ((S c).args.k + c.before.loop-j.j)
-number c = reads w32 (c.before.loop-j.invariant.2.small _) tt
+    to_z w32 (of_z w32 (at c.loop-j.x ((S c).args.k + c.loop-j.j)))
+    ≡ at c.loop-j.x ((S c).args.k + c.loop-j.j)
+number c = reads w32 (c.loop-j.invariant.2.small _) tt
 
 pub applied_whole-z-requires : goal.applied_whole-z-requires
 applied_whole-z-requires c =
-    let c = (goal.at.applied_whole-z-requires c).After-applied_whole-arg-1 in
-    let i = c.before.before.before in
-    let s = S i in
-    let l = i.before.loop-j in
-    rw (total c.before.before, sign c.before, number i, to_z-of_z s.fits.d) (
-      rest-element-small s.pre.0.0 l.j (inside i) s.pre.0.2,
+    let s = S (goal.at.applied_whole-z-requires c).In-loop-j in
+    let l = c.loop-j in
+    rw (total (goal.at.applied_whole-z-requires c).After-crossing_total-s, sign (goal.at.applied_whole-z-requires c).After-sign_at, number (goal.at.applied_whole-z-requires c).In-loop-j, to_z-of_z s.fits.d) (
+      rest-element-small s.pre.0.0 l.j (inside (goal.at.applied_whole-z-requires c).In-loop-j) s.pre.0.2,
       s.pre.0.1,
-      s.pre.0.0.sign l.j (inside i),
+      s.pre.0.0.sign l.j (inside (goal.at.applied_whole-z-requires c).In-loop-j),
       l.invariant.2.small _,
     )
 
@@ -55,17 +50,16 @@ applied_whole-z-requires c =
 abbrev F : In-loop-j → ℤ
 F c =
     let a = (S c).args in
-    applied_in (rule_by a.down a.even) a.row.now a.f (to_z w32 (of_z w32 a.d)) a.v.now a.k c.before.loop-j.x
-    (a.k + c.before.loop-j.j)
+    applied_in (rule_by a.down a.even) a.row.now a.f (to_z w32 (of_z w32 a.d)) a.v.now a.k c.loop-j.x
+    (a.k + c.loop-j.j)
 
 value : (c : After-applied_whole-z) →
-    to_z w64 (of_z w64 c.applied_whole-z.result) ≡ F c.before.before.before.before
+    to_z w64 (of_z w64 c.applied_whole-z.result) ≡ F c.before.before.before
 value c =
-    let i = c.before.before.before.before in
-    let a = (S i).args in
-    let l = i.before.loop-j in
+    let a = (S c.before.before.before).args in
+    let l = c.loop-j in
     back w64 _ c.applied_whole-z.type_inv ∙ c.applied_whole-z.ensures
-    ∙ rw (total c.before.before.before, sign c.before.before, number i)
+    ∙ rw (total c.before.before, sign c.before, number c.before.before.before)
     (applied-from (rule_by a.down a.even) a.row.now a.f l.j (to_z w32 (of_z w32 a.d)) a.v.now
     (at l.x (a.k + l.j))
     ∙ sym (applied-in (rule_by a.down a.even) a.row.now a.f (to_z w32 (of_z w32 a.d)) a.v.now a.k l.j
@@ -73,34 +67,28 @@ value c =
 
 pub returns-then-not-is_within : goal.returns-then-not-is_within
 returns-then-not-is_within c =
-    let c = (goal.at.returns-then-not-is_within c).Then-not-is_within in
-    let i = c.before.before.before.before.before.before in
-    let s = S i in
-    let l = i.before.loop-j in
+    let s = S (goal.at.returns-then-not-is_within c).In-loop-j in
+    let l = c.loop-j in
     row-beyond (ap length l.invariant.1 ∙ length-in-place _ _ l.j _)
     (rw (to_z-of_z s.fits.d) at
-    (turn-beyond _ (λ u. s.args.k + u) l.j s.args.x.now i.loop-j-test.true l.invariant.1
-    (test-no bound (value c.before.before) c.before.is_within.ensures (not-true _ c.if-not-is_within.true))))
+    (turn-beyond _ (λ u. s.args.k + u) l.j s.args.x.now c.loop-j-test.true l.invariant.1
+    (test-no bound (value (goal.at.returns-then-not-is_within c).After-applied_whole-z) c.is_within.ensures (c.if-not-is_within.true))))
 
-held : (c : Else-not-is_within) → Within bound (F c.before.before.before.before.before.before)
-held c = test-yes bound (value c.before.before) c.before.is_within.ensures (not-false _ c.if-not-is_within.false)
+held : (c : Else-not-is_within) → Within bound (F c.before.before.before.before.before)
+held c = test-yes bound (value c.before.before) c.is_within.ensures (c.if-not-is_within.false)
 
 pub loop-j-preserved : goal.loop-j-preserved
 loop-j-preserved c =
-    let c = (goal.at.loop-j-preserved c).Else-not-is_within in
-    let i = c.before.before.before.before.before.before in
-    let s = S i in
-    let l = i.before.loop-j in (
+    let s = S (goal.at.loop-j-preserved c).In-loop-j in
+    let l = c.loop-j in (
       omega arith,
-      rw (value c.before.before, reads w32 (held c) tt)
+      rw (value (goal.at.loop-j-preserved c).After-applied_whole-z, reads w32 (held (goal.at.loop-j-preserved c).Else-not-is_within) tt)
           (turn-next _ (λ u. s.args.k + u) l.j s.args.x.now l.invariant.1),
-      rw (value c.before.before, reads w32 (held c) tt) (bounded-set l.x (s.args.k + l.j) l.invariant.2 (held c)),
+      rw (value (goal.at.loop-j-preserved c).After-applied_whole-z, reads w32 (held (goal.at.loop-j-preserved c).Else-not-is_within) tt) (bounded-set l.x (s.args.k + l.j) l.invariant.2 (held (goal.at.loop-j-preserved c).Else-not-is_within)),
     )
 
 pub returns : goal.returns
 returns c =
-    let c = (goal.at.returns c).After-loop-j in
-    let s = c.before.before.before in
-    let l = c.before.loop-j in
-    let e : l.j ≡ s.args.f.order = omega arith in
-    row-through (rw (to_z-of_z s.ranges.d, e) at l.invariant.1) l.invariant.2
+    let l = c.loop-j in
+    let e : l.j ≡ c.args.f.order = omega arith in
+    row-through (rw (to_z-of_z c.ranges.d, e) at l.invariant.1) l.invariant.2

@@ -1,6 +1,5 @@
 -- The block is as u turns leave it, all of it is in bound, and v has the row's sums with what is recovered (`RecoveredSums`).
 use Rattle.std.proofs.Common.{◌≡◌, refl, sym, ap, ◌∙◌, ℕ, ◌+◌, ◌*◌, ◌<◌, add-one, arith, ℤ, ◌+ℤ◌, ◌*ℤ◌, length, set, length-set, w32, w64, to_z, of_z}
-use borrow.Author.Tests.{not-true, not-false}
 use Rattle.factor.specs.InPlace.{in_place, length-in-place}
 use Rattle.factor.specs.LayoutInSheet.{row-wide}
 use Rattle.factor.specs.Rounding.{rule_by}
@@ -15,13 +14,12 @@ use Rattle.rules.specs.Numbers.{most_entry, bound, at}
 use Rattle.whole.specs.Diff.{Within}
 use Rattle.whole.specs.Machine.{fits, reads, back, within-le, within-+, within-*}
 use Rattle.singlerows.proofs.undo_crossing.Goals as goal
-use Rattle.singlerows.proofs.undo_crossing.Goals.{After-diagonal_of, After-loop-u, After-nth_undone-j, After-rest_sums_at, After-sign_at-d, After-undone_at-arg-1, After-undone_at-z, After-v-in-loop-u-1, After-with_sum, Else-not-is_within, Then-not-is_within}
+use Rattle.singlerows.proofs.undo_crossing.Goals.{After-diagonal_of, After-nth_undone-j, After-sign_at-d, After-undone_at-z, After-with_sum, Else-not-is_within}
 
 pub loop-u-init : goal.loop-u-init
 unfolding in_place rest_sums
 loop-u-init c =
-    let c = (goal.at.loop-u-init c).After-rest_sums_at in
-    let s = c.before.before.before in
+    let s = c.before in
     let e = c.rest_sums_at.ensures in (
       omega arith,
       refl,
@@ -34,217 +32,185 @@ loop-u-init c =
     )
 
 inside-order : (p : After-nth_undone-j) →
-    p.nth_undone-j.result < p.before.before.before.before.before.before.args.fb.order
+    p.nth_undone-j.result < p.before.args.fb.order
 inside-order p =
-    let s = p.before.before.before.before.before.before in
+    let s = p.before in
     rw p.nth_undone-j.ensures ((undoing-permutes s.args.fb.kind s.args.fb.order s.args.fb.row s.requires.3).below
-    p.before.before.loop-u.u p.before.loop-u-test.true)
+    p.loop-u.u p.loop-u-test.true)
 
 -- the place of the element
 abbrev P : After-nth_undone-j → ℕ
 P p =
-    p.before.before.before.before.before.before.args.i *
-    p.before.before.before.before.before.before.args.fb.order + p.nth_undone-j.result
+    p.before.args.i *
+    p.before.args.fb.order + p.nth_undone-j.result
 
 room : (p : After-nth_undone-j) → P p < 256
 room p =
-    let s = p.before.before.before.before.before.before in
+    let s = p.before in
     in_block p.nth_undone-j.result s.requires.0.order s.requires.1.order s.requires.2 (inside-order p)
 
 pub overflow_add-e : goal.overflow_add-e
-overflow_add-e c =
-    let c = (goal.at.overflow_add-e c).After-nth_undone-j in
-    let h = room c in omega arith
+overflow_add-e c =     let h = room (goal.at.overflow_add-e c).After-nth_undone-j in omega arith
 
 pub offset_bounds-x-e : goal.offset_bounds-x-e
-offset_bounds-x-e c =
-    let c = (goal.at.offset_bounds-x-e c).After-v-in-loop-u-1 in
-    let h = room c.before.before in omega arith
+offset_bounds-x-e c =     let h = room (goal.at.offset_bounds-x-e c).After-nth_undone-j in omega arith
 
 pub bounds-x-e : goal.bounds-x-e
-bounds-x-e c =
-    let c = (goal.at.bounds-x-e c).After-v-in-loop-u-1 in
-    let h = room c.before.before in omega arith
+bounds-x-e c =     let h = room (goal.at.bounds-x-e c).After-nth_undone-j in omega arith
 
 -- what the element was
 abbrev F : After-nth_undone-j → ℤ
 F p =
-    let s = p.before.before.before.before.before.before in
+    let s = p.before in
     undone_of (rule_by s.args.down s.args.even) s.args.col.now s.args.fa s.args.row.now s.args.fb
-    p.before.before.loop-u.x (P p)
+    p.loop-u.x (P p)
 
 abbrev D : After-nth_undone-j → ℤ
-D p = let s = p.before.before.before.before.before.before in sign_at s.args.col.now s.args.fa s.args.i
+D p = let s = p.before in sign_at s.args.col.now s.args.fa s.args.i
 
 sign : (c : After-sign_at-d) → to_z w32 (of_z w32 c.sign_at-d.result) ≡ D c.before
 sign c = back w32 _ c.sign_at-d.type_inv ∙ c.sign_at-d.ensures
 
-old : (p : After-nth_undone-j) → Within bound (at p.before.before.loop-u.x (P p))
-old p = p.before.before.loop-u.invariant.2.small (P p)
+old : (p : After-nth_undone-j) → Within bound (at p.loop-u.x (P p))
+old p = p.loop-u.invariant.2.small (P p)
 
 pub undone_at-z-requires : goal.undone_at-z-requires
 undone_at-z-requires c =
-    let c = (goal.at.undone_at-z-requires c).After-undone_at-arg-1 in
-    let p = c.before.before.before in
-    let s = p.before.before.before.before.before.before in
-    rw (sign c.before.before, reads w32 (old p) tt)
-    (s.requires.1, inside-order p, s.requires.0.sign s.args.i s.requires.2, p.before.before.loop-u.invariant.4, old p)
+    let s = c.before in
+    rw (sign (goal.at.undone_at-z-requires c).After-sign_at-d, reads w32 (old (goal.at.undone_at-z-requires c).After-nth_undone-j) tt)
+    (s.requires.1, inside-order (goal.at.undone_at-z-requires c).After-nth_undone-j, s.requires.0.sign s.args.i s.requires.2, c.loop-u.invariant.4, old (goal.at.undone_at-z-requires c).After-nth_undone-j)
 
 value : (c : After-undone_at-z) →
-    to_z w64 (of_z w64 c.undone_at-z.result) ≡ F c.before.before.before.before
+    to_z w64 (of_z w64 c.undone_at-z.result) ≡ F c.before.before
 value c =
-    let p = c.before.before.before.before in
-    let s = p.before.before.before.before.before.before in
-    let l = p.before.before.loop-u in
+    let s = c.before in
+    let l = c.loop-u in
     let j = nth_undone s.args.fb.kind s.args.fb.order s.args.fb.row l.u in
     back w64 _ c.undone_at-z.type_inv ∙ c.undone_at-z.ensures
-    ∙ rw (sign c.before.before.before, reads w32 (old p) tt, p.nth_undone-j.ensures)
+    ∙ rw (sign c.before, reads w32 (old c.before.before) tt, c.nth_undone-j.ensures)
     (recovered-sums-undo s.args.col.now s.args.fa s.args.i s.args.fb s.requires.3 s.requires.1.order s.requires.0
-    s.requires.2 l.u p.before.loop-u-test.true l.invariant.3 s.requires.1 (rule_by s.args.down s.args.even)
+    s.requires.2 l.u c.loop-u-test.true l.invariant.3 s.requires.1 (rule_by s.args.down s.args.even)
     ∙ sym (undone-here (rule_by s.args.down s.args.even) s.args.col.now s.args.fa s.args.row.now
     s.args.fb l.x s.args.i j
-    (rw p.nth_undone-j.ensures at (inside-order p))))
+    (rw c.nth_undone-j.ensures at (inside-order c.before.before))))
 
 pub returns-then-not-is_within : goal.returns-then-not-is_within
 returns-then-not-is_within c =
-    let c = (goal.at.returns-then-not-is_within c).Then-not-is_within in
-    let p = c.before.before.before.before.before.before in
-    let l = p.before.before.loop-u in
+    let l = c.loop-u in
     record {
       through = λ e. let z : ◌≡◌ {A = ℕ} 0 1 = cc in absurd (omega arith);
       stopped = λ e. record {
         turn = l.u;
-        before = p.before.loop-u-test.true;
+        before = c.loop-u-test.true;
         far =
-            rw (← l.invariant.1, ← p.nth_undone-j.ensures)
-            (test-no bound (value c.before.before) c.before.is_within.ensures (not-true _ c.if-not-is_within.true));
+            rw (← l.invariant.1, ← c.nth_undone-j.ensures)
+            (test-no bound (value (goal.at.returns-then-not-is_within c).After-undone_at-z) c.is_within.ensures (c.if-not-is_within.true));
       };
       keeps = ap length l.invariant.1 ∙ length-in-place _ _ l.u _;
     }
 
-held : (c : Else-not-is_within) → Within bound (F c.before.before.before.before.before.before)
-held c = test-yes bound (value c.before.before) c.before.is_within.ensures (not-false _ c.if-not-is_within.false)
+held : (c : Else-not-is_within) → Within bound (F c.before.before.before.before)
+held c = test-yes bound (value c.before.before) c.is_within.ensures (c.if-not-is_within.false)
 
 pub offset_bounds-x-e-in-loop-u : goal.offset_bounds-x-e-in-loop-u
-offset_bounds-x-e-in-loop-u c =
-    let c = (goal.at.offset_bounds-x-e-in-loop-u c).Else-not-is_within in
-    let h = room c.before.before.before.before.before.before in omega arith
+offset_bounds-x-e-in-loop-u c =     let h = room (goal.at.offset_bounds-x-e-in-loop-u c).After-nth_undone-j in omega arith
 
 pub bounds-x-e-in-loop-u : goal.bounds-x-e-in-loop-u
-bounds-x-e-in-loop-u c =
-    let c = (goal.at.bounds-x-e-in-loop-u c).Else-not-is_within in
-    let h = room c.before.before.before.before.before.before in omega arith
+bounds-x-e-in-loop-u c =     let h = room (goal.at.bounds-x-e-in-loop-u c).After-nth_undone-j in omega arith
 
 -- a column of the row of sums
 column : (p : After-nth_undone-j) → p.nth_undone-j.result < 16
-column p = let h = inside-order p in let o = p.before.before.before.before.before.before.requires.1.order in omega arith
+column p = let h = inside-order p in let o = p.before.requires.1.order in omega arith
 
 pub offset_bounds-v-j : goal.offset_bounds-v-j
-offset_bounds-v-j c =
-    let c = (goal.at.offset_bounds-v-j c).Else-not-is_within in
-    let h = column c.before.before.before.before.before.before in omega arith
+offset_bounds-v-j c =     let h = column (goal.at.offset_bounds-v-j c).After-nth_undone-j in omega arith
 
 pub bounds-v-j : goal.bounds-v-j
-bounds-v-j c =
-    let c = (goal.at.bounds-v-j c).Else-not-is_within in
-    let h = column c.before.before.before.before.before.before in omega arith
+bounds-v-j c =     let h = column (goal.at.bounds-v-j c).After-nth_undone-j in omega arith
 
 diagonal-is-small : (p : After-nth_undone-j) → Within most_entry (diagonal_of (D p))
 diagonal-is-small p =
-    let s = p.before.before.before.before.before.before in diagonal-small (s.requires.0.sign s.args.i s.requires.2)
+    let s = p.before in diagonal-small (s.requires.0.sign s.args.i s.requires.2)
 
 diagonal : (c : After-diagonal_of) →
     to_z w32 (of_z w32 c.diagonal_of.result) ≡ diagonal_of
-    (D c.before.before.before.before.before.before.before.before)
+    (D c.before.before.before.before.before)
 diagonal c =
     back w32 _ c.diagonal_of.type_inv ∙ c.diagonal_of.ensures
-    ∙ rw (sign c.before.before.before.before.before.before.before)
+    ∙ rw (sign c.before.before.before.before)
 
 pub with_sum-requires : goal.with_sum-requires
 with_sum-requires c =
-    let c = (goal.at.with_sum-requires c).After-diagonal_of in
-    let e = c.before.before in
-    let p = e.before.before.before.before.before.before in
-    let o = diagonal-is-small p in
-    let v = p.before.before.loop-u.invariant.4.small p.nth_undone-j.result in
-    rw (reads w64 v tt, diagonal c, value e.before.before)
-    (fits o tt, fits (within-* o (held e)) tt, fits (within-+ v (within-* o (held e))) tt)
+    let o = diagonal-is-small (goal.at.with_sum-requires c).After-nth_undone-j in
+    let v = c.loop-u.invariant.4.small c.nth_undone-j.result in
+    rw (reads w64 v tt, diagonal (goal.at.with_sum-requires c).After-diagonal_of, value (goal.at.with_sum-requires c).After-undone_at-z)
+    (fits o tt, fits (within-* o (held (goal.at.with_sum-requires c).Else-not-is_within)) tt, fits (within-+ v (within-* o (held (goal.at.with_sum-requires c).Else-not-is_within))) tt)
 
 pub offset_bounds-v-j-in-loop-u : goal.offset_bounds-v-j-in-loop-u
-offset_bounds-v-j-in-loop-u c =
-    let c = (goal.at.offset_bounds-v-j-in-loop-u c).After-with_sum in
-    let h = column c.before.before.before.before.before.before.before.before.before in omega arith
+offset_bounds-v-j-in-loop-u c =     let h = column (goal.at.offset_bounds-v-j-in-loop-u c).After-nth_undone-j in omega arith
 
 pub bounds-v-j-in-loop-u : goal.bounds-v-j-in-loop-u
-bounds-v-j-in-loop-u c =
-    let c = (goal.at.bounds-v-j-in-loop-u c).After-with_sum in
-    let h = column c.before.before.before.before.before.before.before.before.before in omega arith
+bounds-v-j-in-loop-u c =     let h = column (goal.at.bounds-v-j-in-loop-u c).After-nth_undone-j in omega arith
 
 -- the sum of the element's column, with the element
 abbrev G : After-nth_undone-j → ℤ
-G p = at p.before.before.loop-u.v-1 p.nth_undone-j.result +ℤ (diagonal_of (D p) *ℤ F p)
+G p = at p.loop-u.v p.nth_undone-j.result +ℤ (diagonal_of (D p) *ℤ F p)
 
 sum_is : (c : After-with_sum) →
-    to_z w64 (of_z w64 c.with_sum.result) ≡ G c.before.before.before.before.before.before.before.before.before
+    to_z w64 (of_z w64 c.with_sum.result) ≡ G c.before.before.before.before.before.before
 sum_is c =
-    let e = c.before.before.before in
-    let p = e.before.before.before.before.before.before in
     back w64 _ c.with_sum.type_inv ∙ c.with_sum.ensures
     ∙ rw (
-      reads w64 (p.before.before.loop-u.invariant.4.small p.nth_undone-j.result) tt,
+      reads w64 (c.loop-u.invariant.4.small c.nth_undone-j.result) tt,
       diagonal c.before,
       value
-          e.before.before,
+          c.before.before.before.before,
     )
 
-long : (p : After-nth_undone-j) → length p.before.before.loop-u.x ≡ 256
+long : (p : After-nth_undone-j) → length p.loop-u.x ≡ 256
 long p =
-    let l = p.before.before.loop-u in ap length l.invariant.1 ∙ length-in-place _ _ l.u _
-    ∙ p.before.before.before.before.before.before.requires.5
+    let l = p.loop-u in ap length l.invariant.1 ∙ length-in-place _ _ l.u _
+    ∙ p.before.requires.5
 
 next : (p : After-nth_undone-j) →
-    let s = p.before.before.before.before.before.before in
-    let l = p.before.before.loop-u in
+    let s = p.before in
+    let l = p.loop-u in
     RecoveredSums s.args.col.now s.args.fa s.args.i s.args.fb (l.u + 1) (set l.x (P p) (F p))
-    (set l.v-1 p.nth_undone-j.result (G p))
+    (set l.v p.nth_undone-j.result (G p))
 next p =
-    let s = p.before.before.before.before.before.before in
-    let l = p.before.before.loop-u in
+    let s = p.before in
+    let l = p.loop-u in
     let h : P p < length l.x = let r = room p in omega (arith, long p) in
     rw p.nth_undone-j.ensures
     (recovered-sums-next s.args.col.now s.args.fa s.args.i s.args.fb s.requires.3 s.requires.1.order s.requires.0
-    s.requires.2 l.u p.before.loop-u-test.true l.invariant.3 _
+    s.requires.2 l.u p.loop-u-test.true l.invariant.3 _
     (rw p.nth_undone-j.ensures at h) l.invariant.5)
 
 small : (p : After-nth_undone-j) → Within bound (F p) → Within most_column (G p)
 small p h =
-    let s = p.before.before.before.before.before.before in
-    let l = p.before.before.loop-u in
+    let s = p.before in
+    let l = p.loop-u in
     rw p.nth_undone-j.ensures
     (recovered-sums-small s.args.col.now s.args.fa s.args.i s.args.fb s.requires.3 s.requires.1.order s.requires.0
-    s.requires.2 l.u p.before.loop-u-test.true l.invariant.3
+    s.requires.2 l.u p.loop-u-test.true l.invariant.3
     (bounded-le (omega arith) l.invariant.2) (within-le (omega arith) (rw p.nth_undone-j.ensures at h)))
 
 pub loop-u-preserved : goal.loop-u-preserved
 unfolding in_place
 loop-u-preserved c =
-    let c = (goal.at.loop-u-preserved c).After-with_sum in
-    let e = c.before.before.before in
-    let p = e.before.before.before.before.before.before in
-    let l = p.before.before.loop-u in (
+    let l = c.loop-u in (
       omega arith,
-      rw (add-one, value e.before.before, reads w32 (held e) tt, p.nth_undone-j.ensures, l.invariant.1),
-      rw (value e.before.before, reads w32 (held e) tt) (bounded-set l.x (P p) l.invariant.2 (held e)),
-      rw (value e.before.before, reads w32 (held e) tt, sum_is c) (next p),
-      rw (sum_is c) (bounded-set l.v-1 p.nth_undone-j.result l.invariant.4 (small p (held e))),
-      length-set l.v-1 p.nth_undone-j.result _ ∙ l.invariant.5,
+      rw (add-one, value (goal.at.loop-u-preserved c).After-undone_at-z, reads w32 (held (goal.at.loop-u-preserved c).Else-not-is_within) tt, c.nth_undone-j.ensures, l.invariant.1),
+      rw (value (goal.at.loop-u-preserved c).After-undone_at-z, reads w32 (held (goal.at.loop-u-preserved c).Else-not-is_within) tt) (bounded-set l.x (P (goal.at.loop-u-preserved c).After-nth_undone-j) l.invariant.2 (held (goal.at.loop-u-preserved c).Else-not-is_within)),
+      rw (value (goal.at.loop-u-preserved c).After-undone_at-z, reads w32 (held (goal.at.loop-u-preserved c).Else-not-is_within) tt, sum_is (goal.at.loop-u-preserved c).After-with_sum) (next (goal.at.loop-u-preserved c).After-nth_undone-j),
+      rw (sum_is (goal.at.loop-u-preserved c).After-with_sum) (bounded-set l.v c.nth_undone-j.result l.invariant.4 (small (goal.at.loop-u-preserved c).After-nth_undone-j (held (goal.at.loop-u-preserved c).Else-not-is_within))),
+      length-set l.v c.nth_undone-j.result _ ∙ l.invariant.5,
     )
 
 pub returns : goal.returns
 returns c =
-    let c = (goal.at.returns c).After-loop-u in
-    let s = c.before.before.before.before.before in
-    let l = c.before.loop-u in
+    let s = c.before in
+    let l = c.loop-u in
     let e : l.u ≡ s.args.fb.order = omega arith in
     record {
       through = λ t. (l.invariant.1 ∙ rw e, l.invariant.2);

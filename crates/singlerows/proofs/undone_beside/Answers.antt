@@ -12,22 +12,18 @@ use Rattle.singlerows.proofs.undone_beside.Goals.{After-rounded_beside, After-si
 product : (s : Start) → Sign (s.args.d *ℤ at s.args.g.now s.args.q)
 product s = both-sign s.requires.0 s.args.q s.requires.2
 
-sign : (c : After-sign_in) → let s = c.before in
-    to_z w32 (of_z w32 c.sign_in.result) ≡ s.args.d *ℤ at s.args.g.now s.args.q
-sign c = back w32 _ c.sign_in.type_inv ∙ c.sign_in.ensures ∙ rw (to_z-of_z c.before.ranges.d)
+sign : (c : After-sign_in) → to_z w32 (of_z w32 c.sign_in.result) ≡ c.args.d *ℤ at c.args.g.now c.args.q
+sign c = back w32 _ c.sign_in.type_inv ∙ c.sign_in.ensures ∙ rw (to_z-of_z c.ranges.d)
 
-rounded : (c : After-rounded_beside) → let s = c.before.before in
-    to_z w64 (of_z w64 c.rounded_beside.result)
-    ≡ R (rule_by s.args.down s.args.even) unit (s.args.d *ℤ narrow_sum s.args.w.now s.args.x.now s.args.k
-    s.args.n)
+rounded : (c : After-rounded_beside) → to_z w64 (of_z w64 c.rounded_beside.result)
+    ≡ R (rule_by c.args.down c.args.even) unit (c.args.d *ℤ narrow_sum c.args.w.now c.args.x.now c.args.k
+    c.args.n)
 rounded c =
-    back w64 _ c.rounded_beside.type_inv ∙ c.rounded_beside.ensures ∙ rw (to_z-of_z c.before.before.ranges.d)
+    back w64 _ c.rounded_beside.type_inv ∙ c.rounded_beside.ensures ∙ rw (to_z-of_z c.ranges.d)
 
 pub undone-requires : goal.undone-requires
 undone-requires c =
-    let c = (goal.at.undone-requires c).After-rounded_beside in
-    let s = c.before.before in
-    let e = product s in
-    let y = s.requires.3 in
-    let q = within-- y (rounded-sum-small s.requires.1 s.requires.0.sign (rule_by s.args.down s.args.even)) in
-    rw (rounded c, sign c.before, to_z-of_z s.ranges.y) (e, fits y tt, fits q tt, fits (within-sign e q) tt)
+    let e = product (goal.at.undone-requires c).Start in
+    let y = c.requires.3 in
+    let q = within-- y (rounded-sum-small c.requires.1 c.requires.0.sign (rule_by c.args.down c.args.even)) in
+    rw (rounded (goal.at.undone-requires c).After-rounded_beside, sign (goal.at.undone-requires c).After-sign_in, to_z-of_z c.ranges.y) (e, fits y tt, fits q tt, fits (within-sign e q) tt)

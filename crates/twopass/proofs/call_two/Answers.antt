@@ -5,7 +5,7 @@ use Rattle.factor.specs.Tasks.{inputs_of, end_answer}
 use Rattle.rules.specs.Calls.{Plan}
 use Rattle.twopass.specs.Plans.{two_by, two_size_lem, two-stages, two-sheets}
 use Rattle.twopass.proofs.call_two.Goals as goal
-use Rattle.twopass.proofs.call_two.Goals.{After-accepted, After-refusal_of, After-refused-1, Start, Then-a-ne0}
+use Rattle.twopass.proofs.call_two.Goals.{Start}
 
 -- The checks refuse (`checks-refuse`), or nothing is left but the run (`run-is-left`).
 -- the plan that is called
@@ -14,32 +14,24 @@ P s = two_by s.args.columns s.args.first.now s.args.second.now
 
 pub returns-then-a-ne0 : goal.returns-then-a-ne0
 returns-then-a-ne0 c =
-    let c = (goal.at.returns-then-a-ne0 c).Then-a-ne0 in
-    let k = c.before.before in
-    let s = k.before.before.before in
-    let a = s.args in
-    checks-refuse a.rule a.task (P s) a.x.now a.y-1.now s.requires.1 k.check_in_order-a.ensures.0 c.if-a-ne0.true
+    let a = c.args in
+    checks-refuse a.rule a.task (P (goal.at.returns-then-a-ne0 c).Start) a.x.now a.y.now c.requires.1 c.check_in_order-a.ensures.0 c.if-a-ne0.true
 
 pub run_two-requires : goal.run_two-requires
 run_two-requires c =
-    let c = (goal.at.run_two-requires c).After-refused-1 in
-    let r = c.before.before.before.before in
-    let e = r.before in
-    let k = e.before.before in
-    let s = k.before.before.before in
-    let a = s.args in
-    let h = checks-fine a.rule a.task (P s) a.x.now a.y-1.now s.requires.1 k.check_in_order-a.ensures.0
-    e.if-a-ne0.false in
-    let t = k.check_in_order-a.ensures.1 e.if-a-ne0.false in
+    let a = c.args in
+    let h = checks-fine a.rule a.task (P (goal.at.run_two-requires c).Start) a.x.now a.y.now c.requires.1 c.check_in_order-a.ensures.0
+    c.if-a-ne0.false in
+    let t = c.check_in_order-a.ensures.1 c.if-a-ne0.false in
     let b = two-sheets a.first.now a.second.now a.columns h.0 in
     let n = two_size_lem a.first.now a.second.now a.columns in
     record {
-      way = rw r.run_by.ensures s.requires.0;
+      way = rw c.run_by.ensures c.requires.0;
       one = b.0;
       next = b.1;
       ones = t.0;
       nexts = t.1;
-      input = rw r.run_by.ensures (h.1 ∙ ap (inputs_of a.task) n);
+      input = rw c.run_by.ensures (h.1 ∙ ap (inputs_of a.task) n);
       output = h.2 ∙ n;
       two = refl;
     }
@@ -47,17 +39,10 @@ run_two-requires c =
 pub returns-then-run_two : goal.returns-then-run_two
 unfolding end_answer
 returns-then-run_two c =
-    let c = (goal.at.returns-then-run_two c).After-accepted in
-    let t = c.before in
-    let b = t.before.before in
-    let r = b.before.before.before.before.before in
-    let e = r.before in
-    let k = e.before.before in
-    let s = k.before.before.before in
-    let a = s.args in
-    let g = rw (r.run_by.ensures, t.if-run_two.true) at b.run_two.ensures in
+    let a = c.args in
+    let g = rw (c.run_by.ensures, c.if-run_two.true) at c.run_two.ensures in
     rw (
-      run-is-left a.rule a.task (P s) a.x.now a.y-1.now s.requires.1 k.check_in_order-a.ensures.0 e.if-a-ne0.false,
+      run-is-left a.rule a.task (P (goal.at.returns-then-run_two c).Start) a.x.now a.y.now c.requires.1 c.check_in_order-a.ensures.0 c.if-a-ne0.false,
       two_size_lem a.first.now a.second.now a.columns,
       two-stages a.first.now a.second.now a.columns,
     )
@@ -65,17 +50,10 @@ returns-then-run_two c =
 
 pub returns : goal.returns
 returns c =
-    let c = (goal.at.returns c).After-refusal_of in
-    let t = c.before.before in
-    let b = t.before.before in
-    let r = b.before.before.before.before.before in
-    let e = r.before in
-    let k = e.before.before in
-    let s = k.before.before.before in
-    let a = s.args in
-    let g = rw (r.run_by.ensures, t.if-run_two.false) at b.run_two.ensures in
+    let a = c.args in
+    let g = rw (c.run_by.ensures, c.if-run_two.false) at c.run_two.ensures in
     rw (
-      run-is-left a.rule a.task (P s) a.x.now a.y-1.now s.requires.1 k.check_in_order-a.ensures.0 e.if-a-ne0.false,
+      run-is-left a.rule a.task (P (goal.at.returns c).Start) a.x.now a.y.now c.requires.1 c.check_in_order-a.ensures.0 c.if-a-ne0.false,
       two_size_lem a.first.now a.second.now a.columns,
       two-stages a.first.now a.second.now a.columns,
     )

@@ -5,7 +5,7 @@ use Rattle.laws.specs.Accepted.{Accepted, accepted-order, order-counts, two-read
 use Rattle.rules.specs.Calls.{Plan, two_pass}
 use Rattle.rules.specs.declared.Answer.{Answer}
 use Rattle.twopass.proofs.check_two.Goals as goal
-use Rattle.twopass.proofs.check_two.Goals.{After-check_lengths, After-check_two_starts-c, After-count_at, After-count_at-2, Else-a-ne0, Else-c-ne0, Start, Then-a-ne0, Then-c-ne0}
+use Rattle.twopass.proofs.check_two.Goals.{After-check_lengths, After-check_two_starts-c, Else-a-ne0, Else-c-ne0, Start}
 
 -- The checks in turn (`rule-stops`, `sheets-stop`, `lengths-left`).
 -- the plan that is called
@@ -14,14 +14,11 @@ P s = two_pass s.args.col.now s.args.row.now
 
 pub returns-then-a-ne0 : goal.returns-then-a-ne0
 returns-then-a-ne0 c =
-    let c = (goal.at.returns-then-a-ne0 c).Then-a-ne0 in
-    let k = c.before.before in
-    let s = k.before in
-    (rule-stops s.args.rule s.args.task (P s) _ _ k.check_rule-a.ensures c.if-a-ne0.true, λ e. absurd (c.if-a-ne0.true e))
+    (rule-stops c.args.rule c.args.task (P (goal.at.returns-then-a-ne0 c).Start) _ _ c.check_rule-a.ensures c.if-a-ne0.true, λ e. absurd (c.if-a-ne0.true e))
 
 -- where the sheets are checked, after the number of the rule
 abbrev E : After-check_two_starts-c → Else-a-ne0
-E c = c.before.before.before
+E c = c.before
 
 abbrev S : After-check_two_starts-c → Start
 S c = (E c).before.before.before
@@ -33,49 +30,39 @@ sheets c = c.check_two_starts-c.ensures.0
 
 pub returns-then-c-ne0 : goal.returns-then-c-ne0
 returns-then-c-ne0 c =
-    let c = (goal.at.returns-then-c-ne0 c).Then-c-ne0 in
-    let h = c.before.before in
-    let s = S h in (
-      sheets-stop s.args.rule s.args.task (P s) _ _ (E h).before.before.check_rule-a.ensures (E h).if-a-ne0.false (sheets h)
+    let s = S (goal.at.returns-then-c-ne0 c).After-check_two_starts-c in (
+      sheets-stop s.args.rule s.args.task (P s) _ _ (E (goal.at.returns-then-c-ne0 c).After-check_two_starts-c).before.before.check-rule.ensures (E (goal.at.returns-then-c-ne0 c).After-check_two_starts-c).if1.false (sheets (goal.at.returns-then-c-ne0 c).After-check_two_starts-c)
           c.if-c-ne0.true,
       λ z. absurd (c.if-c-ne0.true z),
     )
 
-fine : (c : Else-c-ne0) → let s = S c.before.before in Accepted s.args.col.now × Accepted s.args.row.now
-fine c = two-read _ _ (ap (λ (a : Answer). a.number) (sym c.before.before.check_two_starts-c.ensures.0) ∙ c.if-c-ne0.false)
+fine : (c : Else-c-ne0) → let s = S c.before in Accepted s.args.col.now × Accepted s.args.row.now
+fine c = two-read _ _ (ap (λ (a : Answer). a.number) (sym c.check_two_starts-c.ensures.0) ∙ c.if-c-ne0.false)
 
 pub count_at-requires : goal.count_at-requires
-count_at-requires c =
-    let c = (goal.at.count_at-requires c).Else-c-ne0 in
-    order-counts (fine c).0
+count_at-requires c =     order-counts (fine (goal.at.count_at-requires c).Else-c-ne0).0
 
 pub count_at-requires-2 : goal.count_at-requires-2
-count_at-requires-2 c =
-    let c = (goal.at.count_at-requires-2 c).After-count_at in
-    order-counts (fine c.before).1
+count_at-requires-2 c =     order-counts (fine (goal.at.count_at-requires-2 c).Else-c-ne0).1
 
 pub overflow_mul-count_at : goal.overflow_mul-count_at
 overflow_mul-count_at c =
-    let c = (goal.at.overflow_mul-count_at c).After-count_at-2 in
-    let f = fine c.before.before in
+    let f = fine (goal.at.overflow_mul-count_at c).Else-c-ne0 in
     let h = mul-le-mul (accepted-order f.0).most (accepted-order f.1).most in
-    rw (c.before.count_at.ensures, c.count_at-2.ensures) (omega arith)
+    rw (c.count_at.ensures, c.count_at-2.ensures) (omega arith)
 
 -- what the lengths told, of the plan's size
 told : (c : After-check_lengths) →
-    let s = S c.before.before.before.before.before in
+    let s = S c.before.before.before.before in
     c.check_lengths.result ≡ lengths_of s.args.task (P s).size s.args.x s.args.y
 unfolding two_pass
-told c = c.check_lengths.ensures ∙ rw (c.before.before.count_at.ensures, c.before.count_at-2.ensures)
+told c = c.check_lengths.ensures ∙ rw (c.count_at.ensures, c.count_at-2.ensures)
 
 pub returns : goal.returns
 returns c =
-    let c = (goal.at.returns c).After-check_lengths in
-    let f = c.before.before.before in
-    let h = f.before.before in
-    let s = S h in (
-      lengths-left s.args.rule s.args.task (P s) _ _ (E h).before.before.check_rule-a.ensures (E h).if-a-ne0.false
-          (sheets h) f.if-c-ne0.false
-          (told c),
-      λ z. h.check_two_starts-c.ensures.1 f.if-c-ne0.false,
+    let s = S (goal.at.returns c).After-check_two_starts-c in (
+      lengths-left s.args.rule s.args.task (P s) _ _ (E (goal.at.returns c).After-check_two_starts-c).before.before.check-rule.ensures (E (goal.at.returns c).After-check_two_starts-c).if1.false
+          (sheets (goal.at.returns c).After-check_two_starts-c) c.if-c-ne0.false
+          (told (goal.at.returns c).After-check_lengths),
+      λ z. c.check_two_starts-c.ensures.1 c.if-c-ne0.false,
     )

@@ -4,12 +4,9 @@ use Rattle.factor.specs.Rounding.{rule_by, none-past, rounded}
 use Rattle.rules.specs.Numbers.{unit²}
 use Rattle.whole.specs.Machine.{back}
 use Rattle.factor.proofs.rounding.round_joint.Goals as goal
-use Rattle.factor.proofs.rounding.round_joint.Goals.{After-round_past}
 
 pub returns : goal.returns
 returns c =
-    let c = (goal.at.returns c).After-round_past in
-    let s = c.before in
-    let rule = rule_by s.args.down s.args.even in
-    rounded rule unit² s.args.s (omega arith)
-    (back w64 _ c.round_past.type_inv ∙ c.round_past.ensures ∙ rw (to_z-of_z s.ranges.s) (none-past rule unit² s.args.s))
+    let rule = rule_by c.args.down c.args.even in
+    rounded rule unit² c.args.s (omega arith)
+    (back w64 _ c.round_past.type_inv ∙ c.round_past.ensures ∙ rw (to_z-of_z c.ranges.s) (none-past rule unit² c.args.s))

@@ -15,26 +15,21 @@ floor s = rw (to_z-of_z s.ranges.s) (reads w64 (within-shr unit s.requires) tt)
 
 told : (c : After-lift-a) →
     to_z w64 (of_z w64 c.lift-a.result)
-    ≡ pos (lift_by c.before.args.down c.before.args.even (unit / 2) (shr_z c.before.args.s unit))
+    ≡ pos (lift_by c.args.down c.args.even (unit / 2) (shr_z c.args.s unit))
 told c = back w64 _ c.lift-a.type_inv ∙ c.lift-a.ensures ∙ rw (floor c.before)
 
-small : (c : After-lift-a) → let s = c.before in
-    Within (most_roundable + unit / 2)
-    (s.args.s +ℤ pos (lift_by s.args.down s.args.even (unit / 2) (shr_z s.args.s unit)))
+small : (c : After-lift-a) → Within (most_roundable + unit / 2)
+    (c.args.s +ℤ pos (lift_by c.args.down c.args.even (unit / 2) (shr_z c.args.s unit)))
 small c =
-    let s = c.before in
-    let m = lift-most s.args.down s.args.even (unit / 2) (shr_z s.args.s unit) (omega arith) in
-    within-+ s.requires (within-le m (within-pos _))
+    let m = lift-most c.args.down c.args.even (unit / 2) (shr_z c.args.s unit) (omega arith) in
+    within-+ c.requires (within-le m (within-pos _))
 
 pub overflow_add-result : goal.overflow_add-result
 overflow_add-result c =
-    let c = (goal.at.overflow_add-result c).After-lift-a in
-    rw (told c, to_z-of_z c.before.ranges.s) (fits (small c) tt)
+        rw (told (goal.at.overflow_add-result c).After-lift-a, to_z-of_z c.ranges.s) (fits (small (goal.at.overflow_add-result c).After-lift-a) tt)
 
 pub returns : goal.returns
 returns c =
-    let c = (goal.at.returns c).After-lift-a in
-    let s = c.before in
-    rounded (rule_by s.args.down s.args.even) unit s.args.s (omega arith)
-    (rw (told c, to_z-of_z s.ranges.s, reads w64 (small c) tt, reads w64 (within-shr unit (small c)) tt)
-    (rounds-as unit s.args.s (omega arith) (omega arith) s.args.down s.args.even))
+    rounded (rule_by c.args.down c.args.even) unit c.args.s (omega arith)
+    (rw (told (goal.at.returns c).After-lift-a, to_z-of_z c.ranges.s, reads w64 (small (goal.at.returns c).After-lift-a) tt, reads w64 (within-shr unit (small (goal.at.returns c).After-lift-a)) tt)
+    (rounds-as unit c.args.s (omega arith) (omega arith) c.args.down c.args.even))

@@ -24,20 +24,16 @@ added s = lift_by s.args.down s.args.even (unit² / 2) (shr_z s.args.s unit² -�
 told : (c : After-lift-a) → to_z w64 (of_z w64 c.lift-a.result) ≡ pos (added c.before)
 told c = back w64 _ c.lift-a.type_inv ∙ c.lift-a.ensures ∙ rw (without c.before)
 
-small : (c : After-lift-a) → Within (most_roundable + unit² / 2) (c.before.args.s +ℤ pos (added c.before))
+small : (c : After-lift-a) → Within (most_roundable + unit² / 2) (c.args.s +ℤ pos (added c.before))
 small c =
-    let s = c.before in
-    let m = lift-most s.args.down s.args.even (unit² / 2) (shr_z s.args.s unit² -ℤ s.args.k) (omega arith) in
-    within-+ s.requires.0 (within-le m (within-pos _))
+    let m = lift-most c.args.down c.args.even (unit² / 2) (shr_z c.args.s unit² -ℤ c.args.k) (omega arith) in
+    within-+ c.requires.0 (within-le m (within-pos _))
 
 pub overflow_add-result : goal.overflow_add-result
 overflow_add-result c =
-    let c = (goal.at.overflow_add-result c).After-lift-a in
-    rw (told c, to_z-of_z c.before.ranges.s) (fits (small c) tt)
+        rw (told (goal.at.overflow_add-result c).After-lift-a, to_z-of_z c.ranges.s) (fits (small (goal.at.overflow_add-result c).After-lift-a) tt)
 
 pub returns : goal.returns
 returns c =
-    let c = (goal.at.returns c).After-lift-a in
-    let s = c.before in
-    rw (told c, to_z-of_z s.ranges.s, reads w64 (small c) tt, reads w64 (within-shr unit² (small c)) tt)
-    (rounds-past unit² s.args.s s.args.k (omega arith) (omega arith) s.args.down s.args.even)
+    rw (told (goal.at.returns c).After-lift-a, to_z-of_z c.ranges.s, reads w64 (small (goal.at.returns c).After-lift-a) tt, reads w64 (within-shr unit² (small (goal.at.returns c).After-lift-a)) tt)
+    (rounds-past unit² c.args.s c.args.k (omega arith) (omega arith) c.args.down c.args.even)

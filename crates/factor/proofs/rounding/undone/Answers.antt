@@ -13,10 +13,9 @@ value :
 value s = rw (to_z-of_z s.ranges.y, to_z-of_z s.requires.1, to_z-of_z s.ranges.q) (to_z-of_z s.requires.2)
 
 -- the product is the number, its sign turned
-flips : (c : Then-d-lt0) → let a = c.before.args in a.d *ℤ (a.y -ℤ a.q) ≡ pos 0 -ℤ (a.y -ℤ a.q)
-flips c = let s = c.before in sign_below _ s.requires.0 (rw (to_z-of_z s.ranges.d) at c.if-d-lt0.true)
+flips : (c : Then-d-lt0) → let a = c.args in a.d *ℤ (a.y -ℤ a.q) ≡ pos 0 -ℤ (a.y -ℤ a.q)
+flips c = sign_below _ c.requires.0 (rw (to_z-of_z c.ranges.d) at c.if-d-lt0.true)
 
 pub returns-then-d-lt0 : goal.returns-then-d-lt0
 returns-then-d-lt0 c =
-    let c = (goal.at.returns-then-d-lt0 c).Then-d-lt0 in
-    rw (value c.before, sym (flips c)) (to_z-of_z c.before.requires.3)
+        rw (value (goal.at.returns-then-d-lt0 c).Start, sym (flips (goal.at.returns-then-d-lt0 c).Then-d-lt0)) (to_z-of_z c.requires.3)

@@ -5,41 +5,32 @@ use Rattle.laws.specs.Accepted.{accepted-count, count-counts}
 use Rattle.rules.specs.Answers.{start}
 use Rattle.rules.specs.Numbers.{count}
 use Rattle.factor.proofs.run.nth_start.Goals as goal
-use Rattle.factor.proofs.run.nth_start.Goals.{After-nth_stage, After-result-1, After-way_told-1, Start}
+use Rattle.factor.proofs.run.nth_start.Goals.{After-nth_stage}
 
 -- The table's entry is the start of that factor, which stands in the sheet.
 pub count_at-requires : goal.count_at-requires
-count_at-requires c =
-    let c = (goal.at.count_at-requires c).Start in
-    count-counts c.requires.0
+count_at-requires c =     count-counts c.requires.0
 
 -- the stage in turn is one of at most 32
-below : (c : After-nth_stage) → c.nth_stage.result-1 < count c.before.before.args.sheet.now 1
+below : (c : After-nth_stage) → c.nth_stage.result < count c.args.sheet.now 1
 below c =
-    let s = c.before.before in
-    rw (c.nth_stage.ensures, c.before.count_at.ensures) (stage-below s.args.task _ _ s.requires.2)
+    rw (c.nth_stage.ensures, c.count_at.ensures) (stage-below c.args.task _ _ c.requires.2)
 
-short : (c : After-nth_stage) → c.nth_stage.result-1 < 32
-short c = let m = (accepted-count c.before.before.requires.0).most in omega (arith, below c)
+short : (c : After-nth_stage) → c.nth_stage.result < 32
+short c = let m = (accepted-count c.requires.0).most in omega (arith, below c)
 
 pub offset_bounds-starts-nth_stage : goal.offset_bounds-starts-nth_stage
-offset_bounds-starts-nth_stage c =
-    let c = (goal.at.offset_bounds-starts-nth_stage c).After-nth_stage in
-    let h = short c in omega arith
+offset_bounds-starts-nth_stage c =     let h = short (goal.at.offset_bounds-starts-nth_stage c).After-nth_stage in omega arith
 
 pub bounds-starts-nth_stage : goal.bounds-starts-nth_stage
-bounds-starts-nth_stage c =
-    let c = (goal.at.bounds-starts-nth_stage c).After-way_told-1 in
-    short c
+bounds-starts-nth_stage c =     short (goal.at.bounds-starts-nth_stage c).After-nth_stage
 
 there :
     (c : After-nth_stage) →
-    let a = c.before.before.args in
-    get_or a.starts.now c.nth_stage.result-1 0 ≡ start a.sheet.now c.nth_stage.result-1
-there c = c.before.before.requires.1.entry _ (below c)
+    let a = c.args in
+    get_or a.starts.now c.nth_stage.result 0 ≡ start a.sheet.now c.nth_stage.result
+there c = c.requires.1.entry _ (below c)
 
 pub returns : goal.returns
 returns c =
-    let c = (goal.at.returns c).After-result-1 in
-    let n = c.before in
-    there n ∙ rw (n.nth_stage.ensures, n.before.count_at.ensures)
+    there (goal.at.returns c).After-nth_stage ∙ rw (c.nth_stage.ensures, c.count_at.ensures)

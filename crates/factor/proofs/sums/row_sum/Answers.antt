@@ -6,40 +6,32 @@ use Rattle.rules.specs.Numbers.{most_entry, most_allowance, at}
 use Rattle.whole.specs.Diff.{Within}
 use Rattle.whole.specs.Machine.{fits, reads, back}
 use Rattle.factor.proofs.sums.row_sum.Goals as goal
-use Rattle.factor.proofs.sums.row_sum.Goals.{After-products_sum_from, After-products_sum_from-arg-2-1}
+use Rattle.factor.proofs.sums.row_sum.Goals.{After-products_sum_from}
 
 pub products_sum_from-requires : goal.products_sum_from-requires
 products_sum_from-requires c =
-    let c = (goal.at.products_sum_from-requires c).After-products_sum_from-arg-2-1 in
-    let s = c.before.before.before.before.before in
     let w = c.products_sum_from-arg-2-1.given.0 in
-    rw (part-is (s.args.r.at + s.args.r.left) s.args.sheet.now)
-    (let b = s.requires.0.right in omega arith, right-terms s.requires.0 s.requires.1 w)
+    rw (part-is (c.args.r.at + c.args.r.left) c.args.sheet.now)
+    (let b = c.requires.0.right in omega arith, right-terms c.requires.0 c.requires.1 w)
 
 value :
     (c : After-products_sum_from) →
-    let s = c.before.before.before.before.before.before in
-    to_z w64 (of_z w64 c.before.before.before.products_sum.result) +ℤ to_z w64 (of_z w64 c.products_sum_from.result)
-    ≡ along (at s.args.sheet.now) s.args.r s.args.m s.args.x.now
+    to_z w64 (of_z w64 c.products_sum.result) +ℤ to_z w64 (of_z w64 c.products_sum_from.result)
+    ≡ along (at c.args.sheet.now) c.args.r c.args.m c.args.x.now
 value c =
-    let s = c.before.before.before.before.before.before in
-    let r = c.before.before.before in
     ap₂ ◌+ℤ◌
-    (back w64 _ r.products_sum.type_inv ∙ (rw (part-is s.args.r.at s.args.sheet.now) at r.products_sum.ensures))
+    (back w64 _ c.products_sum.type_inv ∙ (rw (part-is c.args.r.at c.args.sheet.now) at c.products_sum.ensures))
     (back w64 _ c.products_sum_from.type_inv
-    ∙ (rw (part-is (s.args.r.at + s.args.r.left) s.args.sheet.now) at c.products_sum_from.ensures))
-    ∙ along-runs s.requires.0 s.requires.1 r.before.products_sum-arg-2-1.given.0
+    ∙ (rw (part-is (c.args.r.at + c.args.r.left) c.args.sheet.now) at c.products_sum_from.ensures))
+    ∙ along-runs c.requires.0 c.requires.1 c.products_sum-arg-2-1.given.0
 
-small : (c : After-products_sum_from) → let s = c.before.before.before.before.before.before in
-    Within (32 * (most_entry * most_allowance)) (along (at s.args.sheet.now) s.args.r s.args.m s.args.x.now)
-small c = let s = c.before.before.before.before.before.before in along-small s.requires.0 s.requires.1
+small : (c : After-products_sum_from) → Within (32 * (most_entry * most_allowance)) (along (at c.args.sheet.now) c.args.r c.args.m c.args.x.now)
+small c = along-small c.requires.0 c.requires.1
 
 pub overflow_add-result : goal.overflow_add-result
 overflow_add-result c =
-    let c = (goal.at.overflow_add-result c).After-products_sum_from in
-    rw (value c) (fits (small c) tt)
+        rw (value (goal.at.overflow_add-result c).After-products_sum_from) (fits (small (goal.at.overflow_add-result c).After-products_sum_from) tt)
 
 pub returns : goal.returns
 returns c =
-    let c = (goal.at.returns c).After-products_sum_from in
-    rw (value c) (reads w64 (small c) tt)
+        rw (value (goal.at.returns c).After-products_sum_from) (reads w64 (small (goal.at.returns c).After-products_sum_from) tt)

@@ -5,41 +5,37 @@ use Rattle.four.specs.TurnLaws.{rounded-sum-small, turned_as}
 use Rattle.four.specs.Turns.{element_by}
 use Rattle.whole.specs.Machine.{fits, reads, back, within-+, sign-within, within-sign}
 use Rattle.four.proofs.elements.applied_at.Goals as goal
-use Rattle.four.proofs.elements.applied_at.Goals.{After-applied, After-applied-arg-2-1, After-with_number}
+use Rattle.four.proofs.elements.applied_at.Goals.{After-applied}
 
 pub applied-requires : goal.applied-requires
 applied-requires c =
-    let c = (goal.at.applied-requires c).After-applied-arg-2-1 in
-    let s = c.before.before.before.before in
-    let h = s.requires in
+    let h = c.requires in
     let d = h.0.sign in
-    let x = h.1.small s.args.m in
-    let q = rounded-sum-small h.0 h.1 (rule_by s.args.down s.args.even) in
-    rw (c.before.before.rounded_sum-q.ensures, reads w64 q tt, reads w32 (sign-within d) tt, reads w32 x tt)
+    let x = h.1.small c.args.m in
+    let q = rounded-sum-small h.0 h.1 (rule_by c.args.down c.args.even) in
+    rw (c.rounded_sum-q.ensures, reads w64 q tt, reads w32 (sign-within d) tt, reads w32 x tt)
     (fits (sign-within d) tt, fits x tt, fits (within-sign d x) tt, fits (within-+ (within-sign d x) q) tt)
 
 -- what is made of them
 value :
     (c : After-applied) →
-    let a = c.before.before.before.before.before.args in
+    let a = c.args in
     to_z w64 (of_z w64 c.applied.result)
     ≡ element_by (rule_by a.down a.even) a.sheet.now a.p false a.m a.a a.b a.c a.d a.t10
     a.v.block
 unfolding element_by
 value c =
-    let s = c.before.before.before.before.before in
-    let h = s.requires in
-    let q = rounded-sum-small h.0 h.1 (rule_by s.args.down s.args.even) in
+    let h = c.requires in
+    let q = rounded-sum-small h.0 h.1 (rule_by c.args.down c.args.even) in
     back w64 _ c.applied.type_inv ∙ c.applied.ensures
     ∙ rw (
-      c.before.before.before.rounded_sum-q.ensures,
+      c.rounded_sum-q.ensures,
       reads w64 q tt,
       reads w32 (sign-within h.0.sign) tt,
-      reads w32 (h.1.small s.args.m) tt,
+      reads w32 (h.1.small c.args.m) tt,
     )
 
 pub returns : goal.returns
 returns c =
-    let c = (goal.at.returns c).After-with_number in
-    let a = c.before.before.before.before.before.before.args in turned_as
-    (ap (set a.v.block a.m) (value c.before)) c.with_number.ensures
+    let a = c.args in turned_as
+    (ap (set a.v.block a.m) (value (goal.at.returns c).After-applied)) c.with_number.ensures

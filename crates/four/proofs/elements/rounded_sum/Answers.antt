@@ -12,37 +12,33 @@ use Rattle.four.proofs.elements.rounded_sum.Goals.{After-entry-4, After-products
 -- the entries as they were read
 read :
     (c : After-entry-4) →
-    let s = c.before.before.before.before in
-    let w = entry_at s.args.sheet.now (s.args.p + 4) in
-    to_z w32 (of_z w32 c.before.before.before.entry.result) ∷ to_z w32 (of_z w32 c.before.before.entry-2.result)
-    ∷ to_z w32 (of_z w32 c.before.entry-3.result) ∷ to_z w32 (of_z w32 c.entry-4.result) ∷ []
-    ≡ w s.args.a ∷ w s.args.b ∷ w s.args.c ∷ w s.args.d ∷ []
+    let w = entry_at c.args.sheet.now (c.args.p + 4) in
+    to_z w32 (of_z w32 c.entry.result) ∷ to_z w32 (of_z w32 c.entry-2.result)
+    ∷ to_z w32 (of_z w32 c.entry-3.result) ∷ to_z w32 (of_z w32 c.entry-4.result) ∷ []
+    ≡ w c.args.a ∷ w c.args.b ∷ w c.args.c ∷ w c.args.d ∷ []
 read c =
     rw (
-      back w32 _ c.before.before.before.entry.type_inv,
-      back w32 _ c.before.before.entry-2.type_inv,
-      back w32 _ c.before.entry-3.type_inv,
+      back w32 _ c.entry.type_inv,
+      back w32 _ c.entry-2.type_inv,
+      back w32 _ c.entry-3.type_inv,
       back w32 _ c.entry-4.type_inv,
-      c.before.before.before.entry.ensures,
-      c.before.before.entry-2.ensures,
-      c.before.entry-3.ensures,
+      c.entry.ensures,
+      c.entry-2.ensures,
+      c.entry-3.ensures,
       c.entry-4.ensures,
     )
 
 value :
     (c : After-products_sum) →
-    let a = c.before.before.before.before.before.before.before.args in
+    let a = c.args in
     to_z w64 (of_z w64 c.products_sum.result)
     ≡ row_sum (rule_by a.down a.even) a.sheet.now a.p a.a a.b a.c a.d a.x.now
 unfolding row_sum sum
 value c =
-    let e = c.before.before.before in
-    let x = e.before.before.before.before.args.x.now in
+    let x = c.args.x.now in
     back w64 _ c.products_sum.type_inv ∙ c.products_sum.ensures
-    ∙ ap (λ (w : List ℤ). sum 4 (λ j. at w j *ℤ at x j)) (read e)
+    ∙ ap (λ (w : List ℤ). sum 4 (λ j. at w j *ℤ at x j)) (read c.before)
 
 pub round_line-requires : goal.round_line-requires
 round_line-requires c =
-    let c = (goal.at.round_line-requires c).After-products_sum in
-    let s = c.before.before.before.before.before.before.before in
-    rw (value c) (within-le (omega arith) (row-sum-small s.requires.0 s.requires.1 (rule_by s.args.down s.args.even)))
+    rw (value (goal.at.round_line-requires c).After-products_sum) (within-le (omega arith) (row-sum-small c.requires.0 c.requires.1 (rule_by c.args.down c.args.even)))

@@ -8,47 +8,42 @@ use Rattle.rules.specs.Numbers.{bound}
 use Rattle.rules.specs.Stages.{inside}
 use Rattle.whole.specs.Machine.{fits, reads, back, within--, sign-within, within-sign}
 use Rattle.four.proofs.elements.undone_at.Goals as goal
-use Rattle.four.proofs.elements.undone_at.Goals.{After-undone, After-undone-arg-2-1, After-with_number}
+use Rattle.four.proofs.elements.undone_at.Goals.{After-undone}
 
 pub undone-requires : goal.undone-requires
 undone-requires c =
-    let c = (goal.at.undone-requires c).After-undone-arg-2-1 in
-    let s = c.before.before.before.before.before in
-    let h = s.requires in
+    let h = c.requires in
     let d = h.0.sign in
-    let x = h.1.small s.args.m in
-    let q = rounded-sum-small h.0 h.2 (rule_by s.args.down s.args.even) in
-    rw (c.before.before.rounded_sum-q.ensures, reads w64 q tt, reads w32 (sign-within d) tt, reads w32 x tt)
+    let x = h.1.small c.args.m in
+    let q = rounded-sum-small h.0 h.2 (rule_by c.args.down c.args.even) in
+    rw (c.rounded_sum-q.ensures, reads w64 q tt, reads w32 (sign-within d) tt, reads w32 x tt)
     (d, fits x tt, fits (within-- x q) tt, fits (within-sign d (within-- x q)) tt)
 
 -- what is made of them
 value :
     (c : After-undone) →
-    let a = c.before.before.before.before.before.before.args in
+    let a = c.args in
     to_z w64 (of_z w64 c.undone.result)
     ≡ element_by (rule_by a.down a.even) a.sheet.now a.p true a.m a.a a.b a.c a.d a.t10
     a.v.block
 unfolding element_by
 value c =
-    let s = c.before.before.before.before.before.before in
-    let h = s.requires in
-    let q = rounded-sum-small h.0 h.2 (rule_by s.args.down s.args.even) in
+    let h = c.requires in
+    let q = rounded-sum-small h.0 h.2 (rule_by c.args.down c.args.even) in
     back w64 _ c.undone.type_inv ∙ c.undone.ensures
     ∙ rw (
-      c.before.before.before.rounded_sum-q.ensures,
+      c.rounded_sum-q.ensures,
       reads w64 q tt,
       reads w32 (sign-within h.0.sign) tt,
-      reads w32 (h.1.small s.args.m) tt,
+      reads w32 (h.1.small c.args.m) tt,
     )
 
 pub with_number-requires : goal.with_number-requires
 unfolding padded_block inside
 with_number-requires c =
-    let c = (goal.at.with_number-requires c).After-undone in
-    let h = c.before.before.before.before.before.before.requires in (h.0.place, h.2, padded-bounded 4 bound [] refl)
+    let h = c.requires in (h.0.place, h.2, padded-bounded 4 bound [] refl)
 
 pub returns : goal.returns
 returns c =
-    let c = (goal.at.returns c).After-with_number in
-    let a = c.before.before.before.before.before.before.before.args in turned_as
-    (ap (set a.v.block a.m) (value c.before)) c.with_number.ensures
+    let a = c.args in turned_as
+    (ap (set a.v.block a.m) (value (goal.at.returns c).After-undone)) c.with_number.ensures

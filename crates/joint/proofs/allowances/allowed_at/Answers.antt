@@ -16,7 +16,7 @@ small : (s : Start) → Within most_joint (S s)
 small s = magnitude-sum-small s.requires.0 s.args.j s.requires.1 s.requires.2 s.requires.3
 
 value : (c : After-magnitude_sum_at) → to_z w64 (of_z w64 c.magnitude_sum_at.result) ≡ S c.before
-value c = back w64 _ c.magnitude_sum_at.type_inv ∙ c.magnitude_sum_at.ensures ∙ rw (to_z-of_z c.before.ranges.b)
+value c = back w64 _ c.magnitude_sum_at.type_inv ∙ c.magnitude_sum_at.ensures ∙ rw (to_z-of_z c.ranges.b)
 
 quotient-small : (s : Start) → Within (most_joint + (unit² - 1)) (ceiling unit² (S s))
 unfolding ceiling
@@ -24,26 +24,23 @@ quotient-small s = within-shr unit² (within-+ (small s) (within-pos (unit² - 1
 
 pub raise_joint-requires : goal.raise_joint-requires
 raise_joint-requires c =
-    let c = (goal.at.raise_joint-requires c).After-magnitude_sum_at in
-    let t = small c.before in
-    rw (value c) (fits (within-+ t (within-pos (unit² - 1))) tt, fits (quotient-small c.before) tt)
+    let t = small (goal.at.raise_joint-requires c).Start in
+    rw (value (goal.at.raise_joint-requires c).After-magnitude_sum_at) (fits (within-+ t (within-pos (unit² - 1))) tt, fits (quotient-small (goal.at.raise_joint-requires c).Start) tt)
 
 quotient : (c : After-raise_joint) →
     to_z w64 (of_z w64 c.raise_joint.result) ≡ ceiling unit² (S c.before.before)
 quotient c = back w64 _ c.raise_joint.type_inv ∙ c.raise_joint.ensures ∙ rw (value c.before)
 
 share : (c : After-share_unless_whole) →
-    to_z w64 (of_z w64 c.share_unless_whole.result) ≡ share_of c.before.before.before.before.args.rule
-    c.before.before.before.before.args.whole (whole_row c.before.before.before.before.args.row.now
-    c.before.before.before.before.args.f c.before.before.before.before.args.j)
-share c = back w64 _ c.share_unless_whole.type_inv ∙ c.share_unless_whole.ensures ∙ rw c.before.is_whole_row.ensures
+    to_z w64 (of_z w64 c.share_unless_whole.result) ≡ share_of c.args.rule
+    c.args.whole (whole_row c.args.row.now
+    c.args.f c.args.j)
+share c = back w64 _ c.share_unless_whole.type_inv ∙ c.share_unless_whole.ensures ∙ rw c.is_whole_row.ensures
 
 pub raised-requires : goal.raised-requires
 raised-requires c =
-    let c = (goal.at.raised-requires c).After-share_unless_whole in
-    let s = c.before.before.before.before in
-    let b = s.requires.3 in
-    let u = quotient-small s in
-    let w = share-small s.args.rule s.args.whole (whole_row s.args.row.now s.args.f s.args.j) in
-    rw (quotient c.before.before, share c, to_z-of_z s.ranges.b)
+    let b = c.requires.3 in
+    let u = quotient-small (goal.at.raised-requires c).Start in
+    let w = share-small c.args.rule c.args.whole (whole_row c.args.row.now c.args.f c.args.j) in
+    rw (quotient (goal.at.raised-requires c).After-raise_joint, share (goal.at.raised-requires c).After-share_unless_whole, to_z-of_z c.ranges.b)
     (fits b tt, fits (within-+ b u) tt, fits (within-+ (within-+ b u) w) tt)

@@ -4,11 +4,8 @@ use Rattle.joint.specs.Allowances.{magnitudes-band}
 use Rattle.rules.specs.Numbers.{unit}
 use Rattle.whole.specs.Machine.{within-le, within-pos}
 use Rattle.joint.proofs.allowances.magnitude_sum_at.Goals as goal
-use Rattle.joint.proofs.allowances.magnitude_sum_at.Goals.{After-a-1}
 
 pub joint_sum-requires : goal.joint_sum-requires
 joint_sum-requires c =
-    let c = (goal.at.joint_sum-requires c).After-a-1 in
-    let s = c.before.before.before in
-    rw (c.before.magnitudes-a.ensures, c.before.before.row_of-r.ensures, to_z-of_z s.ranges.b)
-    (magnitudes-band s.requires.0 s.args.j s.requires.1, within-le (omega arith) (within-pos unit), s.requires.2, s.requires.3)
+    rw (c.magnitudes-a.ensures, c.row_of-r.ensures, to_z-of_z c.ranges.b)
+    (magnitudes-band c.requires.0 c.args.j c.requires.1, within-le (omega arith) (within-pos unit), c.requires.2, c.requires.3)

@@ -9,13 +9,13 @@ use Rattle.joint.proofs.elements.rounded_rest_at.Goals as goal
 use Rattle.joint.proofs.elements.rounded_rest_at.Goals.{After-diagonal_of, After-sign_at, After-whole_sum-s, Start}
 
 sign : (c : After-sign_at) →
-    to_z w32 (of_z w32 c.sign_at.result) ≡ sign_at c.before.before.args.row.now c.before.before.args.f
-    c.before.before.args.j
+    to_z w32 (of_z w32 c.sign_at.result) ≡ sign_at c.args.row.now c.args.f
+    c.args.j
 sign c = back w32 _ c.sign_at.type_inv ∙ c.sign_at.ensures
 
 diagonal : (c : After-diagonal_of) →
     to_z w32 (of_z w32 c.diagonal_of.result) ≡ diagonal_of
-    (sign_at c.before.before.before.args.row.now c.before.before.before.args.f c.before.before.before.args.j)
+    (sign_at c.args.row.now c.args.f c.args.j)
 diagonal c = back w32 _ c.diagonal_of.type_inv ∙ c.diagonal_of.ensures ∙ ap diagonal_of (sign c.before)
 
 abbrev J : Start → ℤ
@@ -23,16 +23,12 @@ J s =
     across s.args.row.now (row_of s.args.f s.args.j) s.args.j
     (diagonal_of (sign_at s.args.row.now s.args.f s.args.j)) (at s.args.v.now)
 
-value : (c : After-whole_sum-s) → to_z w64 (of_z w64 c.whole_sum-s.result) ≡ J c.before.before.before.before.before
+value : (c : After-whole_sum-s) → to_z w64 (of_z w64 c.whole_sum-s.result) ≡ J c.before.before.before.before
 value c =
-    let o = c.before.before in
-    let s = o.before.before.before in
     back w64 _ c.whole_sum-s.type_inv ∙ c.whole_sum-s.ensures
-    ∙ rw (diagonal o, o.before.before.row_of.ensures, reads w64 (s.requires.2.small s.args.j) tt)
+    ∙ rw (diagonal c.before, c.row_of.ensures, reads w64 (c.requires.2.small c.args.j) tt)
 
 pub round_joint-requires : goal.round_joint-requires
 round_joint-requires c =
-    let c = (goal.at.round_joint-requires c).After-whole_sum-s in
-    let s = c.before.before.before.before.before in
-    let t = rest-element-small s.requires.0 s.args.j s.requires.1 s.requires.2 in
-    rw (value c) (within-le (omega arith) t)
+    let t = rest-element-small c.requires.0 c.args.j c.requires.1 c.requires.2 in
+    rw (value (goal.at.round_joint-requires c).After-whole_sum-s) (within-le (omega arith) t)

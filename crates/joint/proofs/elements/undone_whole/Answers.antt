@@ -8,20 +8,18 @@ use Rattle.whole.specs.Machine.{fits, back, within--, within-*, sign-within}
 use Rattle.joint.proofs.elements.undone_whole.Goals as goal
 use Rattle.joint.proofs.elements.undone_whole.Goals.{After-both_signs, After-round_joint}
 
-sign : (c : After-both_signs) → to_z w32 (of_z w32 c.both_signs.result) ≡ c.before.args.d *ℤ c.before.args.e
-sign c = back w32 _ c.both_signs.type_inv ∙ c.both_signs.ensures ∙ rw (to_z-of_z c.before.ranges.d, to_z-of_z c.before.ranges.e)
+sign : (c : After-both_signs) → to_z w32 (of_z w32 c.both_signs.result) ≡ c.args.d *ℤ c.args.e
+sign c = back w32 _ c.both_signs.type_inv ∙ c.both_signs.ensures ∙ rw (to_z-of_z c.ranges.d, to_z-of_z c.ranges.e)
 
 rounded : (c : After-round_joint) →
-    to_z w64 (of_z w64 c.round_joint.result) ≡ R (rule_by c.before.before.args.down c.before.before.args.even) unit²
-    c.before.before.args.s
-rounded c = back w64 _ c.round_joint.type_inv ∙ c.round_joint.ensures.0 ∙ rw (to_z-of_z c.before.before.ranges.s)
+    to_z w64 (of_z w64 c.round_joint.result) ≡ R (rule_by c.args.down c.args.even) unit²
+    c.args.s
+rounded c = back w64 _ c.round_joint.type_inv ∙ c.round_joint.ensures.0 ∙ rw (to_z-of_z c.ranges.s)
 
 pub undone-requires : goal.undone-requires
 undone-requires c =
-    let c = (goal.at.undone-requires c).After-round_joint in
-    let s = c.before.before in
-    let g = signs-times s.requires.1 s.requires.2 in
-    let w = within-- s.requires.3 (rounded-within (rule_by s.args.down s.args.even) unit² (omega arith) (omega arith)
-    s.requires.0) in
-    rw (sign c.before, rounded c, to_z-of_z s.ranges.x)
-    (g, fits s.requires.3 tt, fits w tt, fits (within-* (sign-within g) w) tt)
+    let g = signs-times c.requires.1 c.requires.2 in
+    let w = within-- c.requires.3 (rounded-within (rule_by c.args.down c.args.even) unit² (omega arith) (omega arith)
+    c.requires.0) in
+    rw (sign (goal.at.undone-requires c).After-both_signs, rounded (goal.at.undone-requires c).After-round_joint, to_z-of_z c.ranges.x)
+    (g, fits c.requires.3 tt, fits w tt, fits (within-* (sign-within g) w) tt)

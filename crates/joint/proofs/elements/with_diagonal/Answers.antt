@@ -13,17 +13,16 @@ use Rattle.joint.proofs.elements.with_diagonal.Goals.{After-turned}
 small : {d w : ℤ} → Sign d → Within most_column w → Within most_column (d *ℤ w)
 small g h = within-le {A = 1 * most_column} (omega arith) (within-* (sign-within g) h)
 
-value : (c : After-turned) → to_z w64 (of_z w64 c.turned.result) ≡ c.before.args.d *ℤ c.before.args.w
-value c = back w64 _ c.turned.type_inv ∙ c.turned.ensures ∙ rw (to_z-of_z c.before.ranges.d, to_z-of_z c.before.ranges.w)
+value : (c : After-turned) → to_z w64 (of_z w64 c.turned.result) ≡ c.args.d *ℤ c.args.w
+value c = back w64 _ c.turned.type_inv ∙ c.turned.ensures ∙ rw (to_z-of_z c.ranges.d, to_z-of_z c.ranges.w)
 
-product : (c : After-turned) → Within (unit * most_column) (pos unit *ℤ (c.before.args.d *ℤ c.before.args.w))
-product c = within-* (within-pos unit) (small c.before.requires.1 c.before.requires.2)
+product : (c : After-turned) → Within (unit * most_column) (pos unit *ℤ (c.args.d *ℤ c.args.w))
+product c = within-* (within-pos unit) (small c.requires.1 c.requires.2)
 
 pub returns : goal.returns
 returns c =
-    let c = (goal.at.returns c).After-turned in
-    rw (value c, reads w64 (product c) tt, to_z-of_z c.before.ranges.sum)
-    (reads w64 (within-+ c.before.requires.0 (product c)) tt ∙ sides c.before.args.sum c.before.args.d c.before.args.w)
+    rw (value (goal.at.returns c).After-turned, reads w64 (product (goal.at.returns c).After-turned) tt, to_z-of_z c.ranges.sum)
+    (reads w64 (within-+ c.requires.0 (product (goal.at.returns c).After-turned)) tt ∙ sides c.args.sum c.args.d c.args.w)
   where
     sides : (s d w : ℤ) → s +ℤ (pos 4096 *ℤ (d *ℤ w)) ≡ s +ℤ (diagonal_of d *ℤ w)
     sides s d w = simp lia (omega arith)

@@ -5,7 +5,7 @@ use Rattle.rules.specs.Numbers.{at}
 use Rattle.whole.specs.Diff.{Within}
 use Rattle.whole.specs.Machine.{fits, reads, back, within--, within-*}
 use Rattle.joint.proofs.sums.joint_sum.Goals as goal
-use Rattle.joint.proofs.sums.joint_sum.Goals.{After-whole_sum, After-without, After-without-arg-1, Start}
+use Rattle.joint.proofs.sums.joint_sum.Goals.{After-without, Start}
 
 abbrev W : Start → ℤ
 W s = at s.args.v.now s.args.m -ℤ (s.args.other *ℤ s.args.x)
@@ -15,26 +15,19 @@ small s = within-- (s.requires.2.small s.args.m) (within-* s.requires.1 s.requir
 
 pub without-requires : goal.without-requires
 without-requires c =
-    let c = (goal.at.without-requires c).After-without-arg-1 in
-    let s = c.before in
-    rw (reads w64 (s.requires.2.small s.args.m) tt, reads w32 s.requires.1 tt, reads w32 s.requires.3 tt)
-    (fits s.requires.1 tt, fits s.requires.3 tt, fits (within-* s.requires.1 s.requires.3) tt, fits (small s) tt)
+    rw (reads w64 (c.requires.2.small c.args.m) tt, reads w32 c.requires.1 tt, reads w32 c.requires.3 tt)
+    (fits c.requires.1 tt, fits c.requires.3 tt, fits (within-* c.requires.1 c.requires.3) tt, fits (small (goal.at.without-requires c).Start) tt)
 
-left : (c : After-without) → to_z w64 (of_z w64 c.without.result) ≡ W c.before.before
+left : (c : After-without) → to_z w64 (of_z w64 c.without.result) ≡ W c.before
 left c =
-    let s = c.before.before in
     back w64 _ c.without.type_inv ∙ c.without.ensures
-    ∙ rw (reads w64 (s.requires.2.small s.args.m) tt, reads w32 s.requires.1 tt, reads w32 s.requires.3 tt)
+    ∙ rw (reads w64 (c.requires.2.small c.args.m) tt, reads w32 c.requires.1 tt, reads w32 c.requires.3 tt)
 
 pub whole_sum-requires : goal.whole_sum-requires
 whole_sum-requires c =
-    let c = (goal.at.whole_sum-requires c).After-without in
-    let s = c.before.before in
-    rw (left c, reads w32 s.requires.0.small tt) (s.requires.0, s.requires.2, small s)
+    rw (left (goal.at.whole_sum-requires c).After-without, reads w32 c.requires.0.small tt) (c.requires.0, c.requires.2, small (goal.at.whole_sum-requires c).Start)
 
 pub returns : goal.returns
 returns c =
-    let c = (goal.at.returns c).After-whole_sum in
-    let s = c.before.before.before in
     back w64 _ c.whole_sum.type_inv ∙ c.whole_sum.ensures
-    ∙ rw (left c.before, reads w32 s.requires.0.small tt) (diagonal-first _ _ _ _ _ _ _)
+    ∙ rw (left (goal.at.returns c).After-without, reads w32 c.requires.0.small tt) (diagonal-first _ _ _ _ _ _ _)

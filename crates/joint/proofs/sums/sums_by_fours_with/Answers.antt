@@ -5,58 +5,47 @@ use Rattle.joint.specs.Sums.{Adding, added, side_with, side-four, own-small, fou
 use Rattle.rules.specs.Laws.Lists.{length-fill}
 use Rattle.rules.specs.Numbers.{at}
 use Rattle.joint.proofs.sums.sums_by_fours_with.Goals as goal
-use Rattle.joint.proofs.sums.sums_by_fours_with.Goals.{After-put_four, After-put_four-arg-1, After-t-in-loop-g-1, In-loop-g}
+use Rattle.joint.proofs.sums.sums_by_fours_with.Goals.{In-loop-g}
 
 -- the columns of this turn
-columns : (i : In-loop-g) → 4 * i.before.loop-g.g + 4 ≤ i.before.before.args.n
-columns i = let s = i.before.before in omega (arith, div-add-mod s.args.n 4, i.before.loop-g.invariant.1, i.loop-g-test.true)
+columns : (i : In-loop-g) → 4 * i.loop-g.g + 4 ≤ i.args.n
+columns i = omega (arith, div-add-mod i.args.n 4, i.loop-g.invariant.1, i.loop-g-test.true)
 
 -- their rows, once the own terms are in their sums
 rows :
     (i : In-loop-g) →
-    let s = i.before.before.args in
-    let g = i.before.loop-g.g in
+    let s = i.args in
+    let g = i.loop-g.g in
     Adding s.a.now s.p s.m s.x.now (s.k + 4 * g) s.n 4
     (added 4 (λ c. s.diagonal *ℤ at s.x.now (s.o + 4 * g + c)) (replicate 16 (pos 0)))
 rows i =
-    let s = i.before.before in
-    let h = s.requires.0 in
-    let g = i.before.loop-g.g in
-    side-four h (4 * g) 1 (columns i) (omega (arith, s.requires.2))
-    (own-small 4 (s.args.o + 4 * g) (omega arith) h.numbers s.requires.4)
+    let h = i.requires.0 in
+    let g = i.loop-g.g in
+    side-four h (4 * g) 1 (columns i) (omega (arith, i.requires.2))
+    (own-small 4 (i.args.o + 4 * g) (omega arith) h.numbers i.requires.4)
     (length-fill 4 _ (replicate 16 (pos 0)))
 
 pub add_rows-requires : goal.add_rows-requires
 add_rows-requires c =
-    let c = (goal.at.add_rows-requires c).After-t-in-loop-g-1 in
-    let r = c.before in
-    let i = r.before.before in
-    rw (r.add_row.ensures, to_z-of_z i.before.before.ranges.diagonal) (rows i)
+    rw (c.add_row.ensures, to_z-of_z c.ranges.diagonal) (rows (goal.at.add_rows-requires c).In-loop-g)
 
 pub put_four-requires : goal.put_four-requires
 put_four-requires c =
-    let c = (goal.at.put_four-requires c).After-put_four-arg-1 in
-    let a = c.before.before in
-    let r = a.before.before in
-    let i = r.before.before in (
-      omega (arith, columns i, i.before.before.requires.0.wide),
-      rw (a.add_rows.ensures, r.add_row.ensures, to_z-of_z i.before.before.ranges.diagonal) (adding-all-small (rows i)),
+    (
+      omega (arith, columns (goal.at.put_four-requires c).In-loop-g, c.requires.0.wide),
+      rw (c.add_rows.ensures, c.add_row.ensures, to_z-of_z c.ranges.diagonal) (adding-all-small (rows (goal.at.put_four-requires c).In-loop-g)),
     )
 
 pub loop-g-preserved : goal.loop-g-preserved
 loop-g-preserved c =
-    let c = (goal.at.loop-g-preserved c).After-put_four in
-    let a = c.before.before.before in
-    let r = a.before.before in
-    let i = r.before.before in
-    let s = i.before.before.args in
-    let d = to_z-of_z i.before.before.ranges.diagonal in
-    let g = i.before.loop-g.g in (
-      omega (arith, i.before.loop-g.invariant.1, i.loop-g-test.true),
+    let s = c.args in
+    let d = to_z-of_z c.ranges.diagonal in
+    let g = c.loop-g.g in (
+      omega (arith, c.loop-g.invariant.1, c.loop-g-test.true),
       refl,
       rw d (c.put_four.ensures
           ∙ four-more (side_with s.a.now s.p s.m s.x.now s.k s.n s.diagonal s.o) g _ _
-          (a.add_rows.ensures ∙ rw (r.add_row.ensures, d)
+          (c.add_rows.ensures ∙ rw (c.add_row.ensures, d)
           (four-with s.a.now s.p s.m s.x.now s.k s.n s.diagonal s.o (4 * g)))
-          (rw d at i.before.loop-g.invariant.2)),
+          (rw d at c.loop-g.invariant.2)),
     )

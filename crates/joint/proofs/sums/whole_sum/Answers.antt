@@ -5,46 +5,38 @@ use Rattle.rules.specs.Numbers.{at, most_entry}
 use Rattle.whole.specs.Diff.{Within}
 use Rattle.whole.specs.Machine.{fits, reads, back, within-+, within-*}
 use Rattle.joint.proofs.sums.whole_sum.Goals as goal
-use Rattle.joint.proofs.sums.whole_sum.Goals.{After-wide_sum, After-wide_sum-2, After-with_sum, Start}
+use Rattle.joint.proofs.sums.whole_sum.Goals.{After-wide_sum-2, Start}
 
 pub wide_sum-requires-2 : goal.wide_sum-requires-2
-wide_sum-requires-2 c =
-    let c = (goal.at.wide_sum-requires-2 c).After-wide_sum in
-    right-wide c.before.requires.0 c.before.requires.1
+wide_sum-requires-2 c =     right-wide c.requires.0 c.requires.1
 
 abbrev S : Start → ℤ
 S s = entries_sum s.args.a.now s.args.r s.args.m (at s.args.v.now)
 
 value : (c : After-wide_sum-2) →
-    to_z w64 (of_z w64 c.before.wide_sum.result) +ℤ to_z w64 (of_z w64 c.wide_sum-2.result) ≡ S c.before.before
+    to_z w64 (of_z w64 c.wide_sum.result) +ℤ to_z w64 (of_z w64 c.wide_sum-2.result) ≡ S c.before.before
 value c =
-    let s = c.before.before in
-    ap₂ ◌+ℤ◌ (back w64 _ c.before.wide_sum.type_inv ∙ c.before.wide_sum.ensures)
+    ap₂ ◌+ℤ◌ (back w64 _ c.wide_sum.type_inv ∙ c.wide_sum.ensures)
     (back w64 _ c.wide_sum-2.type_inv ∙ c.wide_sum-2.ensures)
-    ∙ wide_runs s.args.a.now s.args.r s.args.m s.args.v.now
+    ∙ wide_runs c.args.a.now c.args.r c.args.m c.args.v.now
 
 small : (s : Start) → Within (15 * (most_entry * most_column)) (S s)
 small s = entries-small s.requires.0 (at s.args.v.now) s.requires.1.small
 
 pub overflow_add-sum : goal.overflow_add-sum
 overflow_add-sum c =
-    let c = (goal.at.overflow_add-sum c).After-wide_sum-2 in
-    rw (value c) (fits (small c.before.before) tt)
+        rw (value (goal.at.overflow_add-sum c).After-wide_sum-2) (fits (small (goal.at.overflow_add-sum c).Start) tt)
 
 pub with_sum-requires : goal.with_sum-requires
 with_sum-requires c =
-    let c = (goal.at.with_sum-requires c).After-wide_sum-2 in
-    let s = c.before.before in
-    let a = s.requires.0.small in
-    let w = s.requires.2 in
-    let t = small s in
-    rw (value c, reads w64 t tt, reads w32 a tt, reads w64 w tt)
+    let a = c.requires.0.small in
+    let w = c.requires.2 in
+    let t = small (goal.at.with_sum-requires c).Start in
+    rw (value (goal.at.with_sum-requires c).After-wide_sum-2, reads w64 t tt, reads w32 a tt, reads w64 w tt)
     (fits a tt, fits (within-* a w) tt, fits (within-+ t (within-* a w)) tt)
 
 pub returns : goal.returns
 returns c =
-    let c = (goal.at.returns c).After-with_sum in
-    let s = c.before.before.before in
-    let t = small s in
+    let t = small (goal.at.returns c).Start in
     back w64 _ c.with_sum.type_inv ∙ c.with_sum.ensures
-    ∙ rw (value c.before, reads w64 t tt, reads w32 s.requires.0.small tt, reads w64 s.requires.2 tt)
+    ∙ rw (value (goal.at.returns c).After-wide_sum-2, reads w64 t tt, reads w32 c.requires.0.small tt, reads w64 c.requires.2 tt)

@@ -4,12 +4,10 @@ use Rattle.factor.specs.Tasks.{stage-below}
 use Rattle.laws.specs.Accepted.{accepted-order, order-counts}
 use Rattle.rules.specs.Numbers.{count}
 use Rattle.linerun.proofs.block.element.Goals as goal
-use Rattle.linerun.proofs.block.element.Goals.{After-b-1, Else-not-named, Start}
+use Rattle.linerun.proofs.block.element.Goals.{Start}
 
 pub count_at-n-requires : goal.count_at-n-requires
-count_at-n-requires c =
-    let c = (goal.at.count_at-n-requires c).Else-not-named in
-    order-counts c.before.requires.0
+count_at-n-requires c =     order-counts c.requires.0
 
 -- the turn of the stage
 in-turn : (s : Start) → s.args.stage - 1 < count s.args.s.now 1
@@ -20,13 +18,10 @@ len s = search rules
 
 pub line_element-requires : goal.line_element-requires
 line_element-requires c =
-    let c = (goal.at.line_element-requires c).After-b-1 in
-    let t = c.before in
-    let s = t.before.before.before in
-    let r = accepted-order s.requires.0 in (
-      rw t.before.count_at-n.ensures r.least,
-      rw t.before.count_at-n.ensures r.most,
-      rw (t.nth_start-i.ensures, t.before.count_at-n.ensures) (s.requires.0.each _ (stage-below _ _ _ (in-turn s))),
-      s.requires.2.small,
-      omega (arith, t.before.count_at-n.ensures, r.most, len s),
+    let r = accepted-order c.requires.0 in (
+      rw c.count_at-n.ensures r.least,
+      rw c.count_at-n.ensures r.most,
+      rw (c.nth_start-i.ensures, c.count_at-n.ensures) (c.requires.0.each _ (stage-below _ _ _ (in-turn (goal.at.line_element-requires c).Start))),
+      c.requires.2.small,
+      omega (arith, c.count_at-n.ensures, r.most, len (goal.at.line_element-requires c).Start),
     )

@@ -1,6 +1,5 @@
 -- The block is as t turns leave it, and in bound (`Filled`); p is where the next row starts.
 use Rattle.std.proofs.Common.{rules, List, ◌≡◌, sym, ◌∙◌, ℕ, ◌+◌, ◌<◌, add-one, arith, ℤ, ◌-ℤ◌, ◌*ℤ◌, length, w64, to_z, of_z}
-use borrow.Author.Tests.{not-true, not-false}
 use Rattle.factor.specs.Rounding.{rule_by}
 use Rattle.factor.specs.UndoingOrder.{nth_undone}
 use Rattle.linerun.specs.Filling.{Filling, filled_next, filled-refused, filled-done, undone-fills}
@@ -12,7 +11,7 @@ use Rattle.rules.specs.Sheets.{triangle}
 use Rattle.rules.specs.declared.Rule.{Rule}
 use Rattle.whole.specs.Machine.{back}
 use Rattle.linerun.proofs.kinds.lower_back.Goals as goal
-use Rattle.linerun.proofs.kinds.lower_back.Goals.{After-left_sum-q, After-loop-t, After-undo_at, After-x-1, After-x-in-loop-t-1, Else-not-undo_at, In-loop-t, Start, Then-not-undo_at}
+use Rattle.linerun.proofs.kinds.lower_back.Goals.{After-left_sum-q, After-undo_at, In-loop-t, Start}
 
 -- the rule of the two tests
 abbrev K : Start → Rule
@@ -36,91 +35,69 @@ unfolding nth_undone
 fills s = undone-fills (K s) s.requires.0 s.args.y (len s) s.requires.2 (P s) (λ t l. rw s.requires.1)
 
 -- the turn is one of the order's
-turn : (c : In-loop-t) → c.before.loop-t.t < c.before.before.args.f.order
-turn c = let l = c.loop-t-test.true in omega (arith, c.before.loop-t.invariant.1)
+turn : (c : In-loop-t) → c.loop-t.t < c.args.f.order
+turn c = let l = c.loop-t-test.true in omega (arith, c.loop-t.invariant.1)
 
 pub left_sum-q-requires : goal.left_sum-q-requires
 left_sum-q-requires c =
-    let c = (goal.at.left_sum-q-requires c).After-x-1 in
-    let i = c.before in
-    let l = i.before in
-    let s = l.before in (
-      (s.requires.0, (turn i), l.loop-t.invariant.3.small),
-      s.requires.1,
-      l.loop-t.invariant.2 ∙ sym
-          (lower-at s.args.f l.loop-t.t s.requires.1),
+    (
+      (c.requires.0, (turn (goal.at.left_sum-q-requires c).In-loop-t), c.loop-t.invariant.3.small),
+      c.requires.1,
+      c.loop-t.invariant.2 ∙ sym
+          (lower-at c.args.f c.loop-t.t c.requires.1),
     )
 
 -- the rounded sum, as it was read
 sum :
     (c : After-left_sum-q) →
-    let l = c.before.before.before in
-    let s = l.before in
-    to_z w64 (of_z w64 c.left_sum-q.result) ≡ rounded_sum (K s) s.args.sheet.now s.args.f l.loop-t.x-1
-    l.loop-t.t
+    to_z w64 (of_z w64 c.left_sum-q.result) ≡ rounded_sum (K c.before.before.before) c.args.sheet.now c.args.f c.loop-t.x
+    c.loop-t.t
 sum c = back w64 _ c.left_sum-q.type_inv ∙ c.left_sum-q.ensures
 
 pub undo_at-requires : goal.undo_at-requires
 undo_at-requires c =
-    let c = (goal.at.undo_at-requires c).After-x-in-loop-t-1 in
-    let i = c.before.before.before in
-    let l = i.before in
-    let s = l.before in (
-      (s.requires.0, turn i, l.loop-t.invariant.3.small),
-      rw (sum c.before) (rounded-sum-small s.requires.0 l.loop-t.t (turn i) (K s) l.loop-t.invariant.3.small),
+    (
+      (c.requires.0, turn (goal.at.undo_at-requires c).In-loop-t, c.loop-t.invariant.3.small),
+      rw (sum (goal.at.undo_at-requires c).After-left_sum-q) (rounded-sum-small c.requires.0 c.loop-t.t (turn (goal.at.undo_at-requires c).In-loop-t) (K (goal.at.undo_at-requires c).Start) c.loop-t.invariant.3.small),
     )
 
 -- what the element was
 value :
     (c : After-undo_at) →
-    let l = c.before.before.before.before.before in
-    let s = l.before in
-    let m = l.loop-t.t in
-    let q = c.before.before.left_sum-q.result in
-    at s.args.sheet.now (s.args.f.signs + m) *ℤ (at l.loop-t.x-1 m -ℤ to_z w64 (of_z w64 q)) ≡ F s l.loop-t.t
+    let m = c.loop-t.t in
+    let q = c.left_sum-q.result in
+    at c.args.sheet.now (c.args.f.signs + m) *ℤ (at c.loop-t.x m -ℤ to_z w64 (of_z w64 q)) ≡ F c.before.before.before.before c.loop-t.t
 unfolding undone_at
-value c = rw (sum c.before.before, c.before.before.before.before.before.loop-t.invariant.3.is)
+value c = rw (sum c.before, c.loop-t.invariant.3.is)
 
 pub returns-then-not-undo_at : goal.returns-then-not-undo_at
 returns-then-not-undo_at c =
-    let c = (goal.at.returns-then-not-undo_at c).Then-not-undo_at in
-    let i = c.before.before.before.before.before in
-    let l = i.before in
-    filled-refused (fills l.before) (turn i) (value c.before) c.before.undo_at.ensures (not-true _ c.if-not-undo_at.true)
+    filled-refused (fills (goal.at.returns-then-not-undo_at c).Start) (turn (goal.at.returns-then-not-undo_at c).In-loop-t) (value (goal.at.returns-then-not-undo_at c).After-undo_at) c.undo_at.ensures (c.if-not-undo_at.true)
 
 pub overflow_add-p : goal.overflow_add-p
 overflow_add-p c =
-    let c = (goal.at.overflow_add-p c).Else-not-undo_at in
-    let i = c.before.before.before.before.before in
-    let l = i.before in
-    let s = l.before in
-    let r = (s.requires.0.row l.loop-t.t (turn i)).room in
-    let h = turn i in
+    let r = (c.requires.0.row c.loop-t.t (turn (goal.at.overflow_add-p c).In-loop-t)).room in
+    let h = turn (goal.at.overflow_add-p c).In-loop-t in
     omega (
       arith,
-      l.loop-t.invariant.1,
-      l.loop-t.invariant.2,
-      lower-at s.args.f l.loop-t.t s.requires.1,
-      lower-left s.args.f
-          l.loop-t.t s.requires.1,
+      c.loop-t.invariant.1,
+      c.loop-t.invariant.2,
+      lower-at c.args.f c.loop-t.t c.requires.1,
+      lower-left c.args.f
+          c.loop-t.t c.requires.1,
     )
 
 pub loop-t-preserved : goal.loop-t-preserved
 unfolding triangle
 loop-t-preserved c =
-    let c = (goal.at.loop-t-preserved c).Else-not-undo_at in
-    let i = c.before.before.before.before.before in
-    let l = i.before in
-    let s = l.before in (
+    (
       omega arith,
-      l.loop-t.invariant.1,
-      let e : triangle (l.loop-t.t + 1) ≡ triangle l.loop-t.t + l.loop-t.t = rw add-one in omega (arith, l.loop-t.invariant.2),
-      filled_next (fills s) (turn i) (value c.before) c.before.undo_at.ensures l.loop-t.invariant.3
-          (not-false _ c.if-not-undo_at.false),
+      c.loop-t.invariant.1,
+      let e : triangle (c.loop-t.t + 1) ≡ triangle c.loop-t.t + c.loop-t.t = rw add-one in omega (arith, c.loop-t.invariant.2),
+      filled_next (fills (goal.at.loop-t-preserved c).Start) (turn (goal.at.loop-t-preserved c).In-loop-t) (value (goal.at.loop-t-preserved c).After-undo_at) c.undo_at.ensures c.loop-t.invariant.3
+          (c.if-not-undo_at.false),
     )
 
 pub returns : goal.returns
 returns c =
-    let c = (goal.at.returns c).After-loop-t in
-    let l = c.before in
-    filled-done (fills l.before) (omega (arith, l.loop-t.invariant.1)) l.loop-t.invariant.3
+    filled-done (fills (goal.at.returns c).Start) (omega (arith, c.loop-t.invariant.1)) c.loop-t.invariant.3

@@ -9,34 +9,31 @@ use Rattle.rules.specs.Numbers.{at}
 use Rattle.whole.specs.Diff.{Within}
 use Rattle.whole.specs.Machine.{back, within-le}
 use Rattle.linerun.proofs.kinds.single_sum.Goals as goal
-use Rattle.linerun.proofs.kinds.single_sum.Goals.{After-row_sum, Then-m-f}
+use Rattle.linerun.proofs.kinds.single_sum.Goals.{After-row_sum}
 
 -- Only one row has entries (`single-none`); its sum is small (`row_small`), so it and its rounding fit 64 bits.
 pub returns-then-m-f : goal.returns-then-m-f
 returns-then-m-f c =
-    let c = (goal.at.returns-then-m-f c).Then-m-f in
-    let s = c.before.before in
-    sym (single-none (rule_by s.args.down s.args.even) s.args.sheet.now s.args.f s.args.x.now s.args.m
-    s.requires.1 c.if-m-f.true)
+    sym (single-none (rule_by c.args.down c.args.even) c.args.sheet.now c.args.f c.args.x.now c.args.m
+    c.requires.1 c.if-m-f.true)
 
 value :
     (c : After-row_sum) →
     to_z w64 (of_z w64 c.row_sum.result)
-    ≡ along (at c.before.before.before.before.args.sheet.now)
-    (row_of c.before.before.before.before.args.f c.before.before.before.before.args.m)
-    c.before.before.before.before.args.m c.before.before.before.before.args.x.now
-value c = back w64 _ c.row_sum.type_inv ∙ c.row_sum.ensures ∙ rw c.before.row_of.ensures
+    ≡ along (at c.args.sheet.now)
+    (row_of c.args.f c.args.m)
+    c.args.m c.args.x.now
+value c = back w64 _ c.row_sum.type_inv ∙ c.row_sum.ensures ∙ rw c.row_of.ensures
 
 small :
     (c : After-row_sum) →
-    Within most_sum (along (at c.before.before.before.before.args.sheet.now)
-    (row_of c.before.before.before.before.args.f c.before.before.before.before.args.m)
-    c.before.before.before.before.args.m
-    c.before.before.before.before.args.x.now)
-small c = let h = c.before.before.before.before.requires.0 in row_small h.0 c.before.before.before.before.args.m
+    Within most_sum (along (at c.args.sheet.now)
+    (row_of c.args.f c.args.m)
+    c.args.m
+    c.args.x.now)
+small c = let h = c.requires.0 in row_small h.0 c.args.m
     h.1 (bounded-le (omega arith) h.2)
 
 pub round_line-requires : goal.round_line-requires
 round_line-requires c =
-    let c = (goal.at.round_line-requires c).After-row_sum in
-    rw (value c) (within-le (omega arith) (small c))
+    rw (value (goal.at.round_line-requires c).After-row_sum) (within-le (omega arith) (small (goal.at.round_line-requires c).After-row_sum))

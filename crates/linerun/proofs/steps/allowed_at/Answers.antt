@@ -28,9 +28,9 @@ abbrev H : Start → ℤ
 H s = cond (W s) (pos 0) (pos (share s.args.rule))
 
 magnitudes : (c : After-magnitude_sum_at) →
-    to_z w64 (of_z w64 c.magnitude_sum_at.result) ≡ A c.before.before.before.before
+    to_z w64 (of_z w64 c.magnitude_sum_at.result) ≡ A c.before.before
 magnitudes c =
-    back w64 _ c.magnitude_sum_at.type_inv ∙ c.magnitude_sum_at.ensures ∙ rw c.before.before.before.row_of-r.ensures
+    back w64 _ c.magnitude_sum_at.type_inv ∙ c.magnitude_sum_at.ensures ∙ rw c.row_of-r.ensures
 
 small : (s : Start) → Within most_sum (A s)
 small s = magnitudes-small (row-of-16 s.requires.0 s.args.m s.requires.1) s.requires.2
@@ -43,24 +43,20 @@ share-small : (rule : Rule) (b : Bool) → Within 4096 (cond b (pos 0) (pos (sha
 share-small rule true = within-le (omega arith) (within-pos 0)
 share-small rule false = within-le (share-most rule) (within-pos (share rule))
 
-quotient : (c : After-raise_line) → to_z w64 (of_z w64 c.raise_line.result) ≡ Q c.before.before.before.before.before
+quotient : (c : After-raise_line) → to_z w64 (of_z w64 c.raise_line.result) ≡ Q c.before.before.before
 quotient c = back w64 _ c.raise_line.type_inv ∙ c.raise_line.ensures ∙ rw (magnitudes c.before)
 
 added : (c : After-row_share) →
-    to_z w64 (of_z w64 c.row_share.result) ≡ H c.before.before.before.before.before.before
-added c = back w64 _ c.row_share.type_inv ∙ c.row_share.ensures ∙ rw c.before.before.before.before.before.row_of-r.ensures
+    to_z w64 (of_z w64 c.row_share.result) ≡ H c.before.before.before.before
+added c = back w64 _ c.row_share.type_inv ∙ c.row_share.ensures ∙ rw c.row_of-r.ensures
 
 pub raise_line-requires : goal.raise_line-requires
 raise_line-requires c =
-    let c = (goal.at.raise_line-requires c).After-magnitude_sum_at in
-    let s = c.before.before.before.before in
-    rw (magnitudes c) (fits (within-+ (small s) (within-pos (unit - 1))) tt, fits (quotient-small s) tt)
+    rw (magnitudes (goal.at.raise_line-requires c).After-magnitude_sum_at) (fits (within-+ (small (goal.at.raise_line-requires c).Start) (within-pos (unit - 1))) tt, fits (quotient-small (goal.at.raise_line-requires c).Start) tt)
 
 pub raised-requires : goal.raised-requires
 raised-requires c =
-    let c = (goal.at.raised-requires c).After-row_share in
-    let s = c.before.before.before.before.before.before in
-    let b = s.requires.2.small s.args.m in
-    let h : Within 4096 (H s) = share-small s.args.rule (W s) in
-    rw (quotient c.before, added c, reads w32 b tt)
-    (fits b tt, fits (within-+ b (quotient-small s)) tt, fits (within-+ (within-+ b (quotient-small s)) h) tt)
+    let b = c.requires.2.small c.args.m in
+    let h : Within 4096 (H (goal.at.raised-requires c).Start) = share-small c.args.rule (W (goal.at.raised-requires c).Start) in
+    rw (quotient (goal.at.raised-requires c).After-raise_line, added (goal.at.raised-requires c).After-row_share, reads w32 b tt)
+    (fits b tt, fits (within-+ b (quotient-small (goal.at.raised-requires c).Start)) tt, fits (within-+ (within-+ b (quotient-small (goal.at.raised-requires c).Start)) h) tt)

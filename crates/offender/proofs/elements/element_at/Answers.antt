@@ -8,7 +8,7 @@ use Rattle.whole.specs.Diff.{Within}
 use Rattle.whole.specs.Machine.{fits, reads, back, within-+, within--, sign-within, within-sign}
 use Rattle.whole.specs.Stated.{Sign}
 use Rattle.offender.proofs.elements.element_at.Goals as goal
-use Rattle.offender.proofs.elements.element_at.Goals.{After-applied-arg-1, After-rounded_sum-s, After-sign_at-d, After-undone-arg-1, Start}
+use Rattle.offender.proofs.elements.element_at.Goals.{After-rounded_sum-s, After-sign_at-d, Start}
 
 -- the sign, the number and the rounded sum; what is known of them
 abbrev D : Start → ℤ
@@ -38,18 +38,12 @@ s_read c = back w64 _ c.rounded_sum-s.type_inv ∙ c.rounded_sum-s.ensures
 
 pub undone-requires : goal.undone-requires
 undone-requires c =
-    let c = (goal.at.undone-requires c).After-undone-arg-1 in
-    let r = c.before.before in
-    let s = r.before.before in
-    let y = within-- (x-small s) (s-small s) in
-    rw (d-read r.before, s_read r, reads w32 (x-small s) tt)
-    (d-is s, fits (x-small s) tt, fits y tt, fits (within-sign (d-is s) y) tt)
+    let y = within-- (x-small (goal.at.undone-requires c).Start) (s-small (goal.at.undone-requires c).Start) in
+    rw (d-read (goal.at.undone-requires c).After-sign_at-d, s_read (goal.at.undone-requires c).After-rounded_sum-s, reads w32 (x-small (goal.at.undone-requires c).Start) tt)
+    (d-is (goal.at.undone-requires c).Start, fits (x-small (goal.at.undone-requires c).Start) tt, fits y tt, fits (within-sign (d-is (goal.at.undone-requires c).Start) y) tt)
 
 pub applied-requires : goal.applied-requires
 applied-requires c =
-    let c = (goal.at.applied-requires c).After-applied-arg-1 in
-    let r = c.before.before in
-    let s = r.before.before in
-    let y = within-sign (d-is s) (x-small s) in
-    rw (d-read r.before, s_read r, reads w32 (x-small s) tt)
-    (fits (sign-within (d-is s)) tt, fits (x-small s) tt, fits y tt, fits (within-+ y (s-small s)) tt)
+    let y = within-sign (d-is (goal.at.applied-requires c).Start) (x-small (goal.at.applied-requires c).Start) in
+    rw (d-read (goal.at.applied-requires c).After-sign_at-d, s_read (goal.at.applied-requires c).After-rounded_sum-s, reads w32 (x-small (goal.at.applied-requires c).Start) tt)
+    (fits (sign-within (d-is (goal.at.applied-requires c).Start)) tt, fits (x-small (goal.at.applied-requires c).Start) tt, fits y tt, fits (within-+ y (s-small (goal.at.applied-requires c).Start)) tt)

@@ -3,7 +3,7 @@ use Rattle.std.proofs.Common.{◌<◌, arith}
 use Rattle.offender.specs.FactorMatrix.{before-most}
 use Rattle.rules.specs.Factors.{entries_before}
 use Rattle.offender.proofs.weights.entries_before.Goals as goal
-use Rattle.offender.proofs.weights.entries_before.Goals.{After-before_lower, After-before_upper, Start}
+use Rattle.offender.proofs.weights.entries_before.Goals.{Start}
 
 -- Each kind is a line of `entries_before`; a factor has fewer than 256 entries (`before-most`).
 -- a factor has few entries
@@ -13,11 +13,9 @@ few s = before-most _ _ _ _ _ s.requires.0 s.requires.1 s.requires.2 s.requires.
 pub overflow_add-result : goal.overflow_add-result
 unfolding entries_before
 overflow_add-result c =
-    let c = (goal.at.overflow_add-result c).After-before_lower in
-    let h = rw c.before.enum_told-in-Lower-1.given.1 at (few c.before.before.before) in omega (arith, c.before_lower.ensures)
+    let h = rw c.in-Lower.is at (few (goal.at.overflow_add-result c).Start) in omega (arith, c.before_lower.ensures)
 
 pub overflow_add-result-in-Upper : goal.overflow_add-result-in-Upper
 unfolding entries_before
 overflow_add-result-in-Upper c =
-    let c = (goal.at.overflow_add-result-in-Upper c).After-before_upper in
-    let h = rw c.before.enum_told-in-Upper-1.given.1 at (few c.before.before.before) in omega (arith, c.before_upper.ensures)
+    let h = rw c.in-Upper.is at (few (goal.at.overflow_add-result-in-Upper c).Start) in omega (arith, c.before_upper.ensures)

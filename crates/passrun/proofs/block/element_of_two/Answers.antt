@@ -10,24 +10,18 @@ use Rattle.passrun.specs.OneLaws.{one-done, one-small, one-named}
 use Rattle.passrun.specs.PassRuns.{pass_run, done-passes}
 use Rattle.rules.specs.Numbers.{count}
 use Rattle.passrun.proofs.block.element_of_two.Goals as goal
-use Rattle.passrun.proofs.block.element_of_two.Goals.{After-count_at-k, After-count_at-m, After-count_at-n, After-element_in_pass, After-element_in_pass-2, After-element_in_pass-arg-1, After-element_in_pass-arg-2-1, After-run_one_pass, After-run_one_pass-arg-1, After-run_turned, After-run_turned-arg-1, Else-t-k, Start, Then-t-k}
+use Rattle.passrun.proofs.block.element_of_two.Goals.{After-count_at-k, After-run_one_pass, After-run_turned, Else-t-k, Start, Then-t-k}
 
 -- The stages before the refused one pass once more: in the first pass (`one-named`), or all of it (`done-passes`) and some of the
 -- second (`second-named`). The search names the element of that stage.
 pub count_at-n-requires : goal.count_at-n-requires
-count_at-n-requires c =
-    let c = (goal.at.count_at-n-requires c).Start in
-    order-counts c.requires.0.one
+count_at-n-requires c =     order-counts c.requires.0.one
 
 pub count_at-m-requires : goal.count_at-m-requires
-count_at-m-requires c =
-    let c = (goal.at.count_at-m-requires c).After-count_at-n in
-    order-counts c.before.requires.0.next
+count_at-m-requires c =     order-counts c.requires.0.next
 
 pub count_at-k-requires : goal.count_at-k-requires
-count_at-k-requires c =
-    let c = (goal.at.count_at-k-requires c).After-count_at-m in
-    count-counts c.before.before.requires.0.one
+count_at-k-requires c =     count-counts c.requires.0.one
 
 -- where the function began
 abbrev S : After-count_at-k → Start
@@ -35,82 +29,73 @@ S k = k.before.before.before
 
 pub run_one_pass-requires : goal.run_one_pass-requires
 run_one_pass-requires c =
-    let c = (goal.at.run_one_pass-requires c).After-run_one_pass-arg-1 in
-    let g = c.before in
-    let k = g.before in
-    let s = S k in (
-      rw k.before.count_at-m.ensures (first-asks s.args.columns s.args.run s.pre.0),
-      omega (arith, g.smaller.ensures, k.count_at-k.ensures),
+    let s = S (goal.at.run_one_pass-requires c).After-count_at-k in (
+      rw c.count_at-m.ensures (first-asks s.args.columns s.args.run s.pre.0),
+      omega (arith, c.smaller.ensures, c.count_at-k.ensures),
       s.pre.1,
     )
 
 -- the counts, from the end of the first pass
 abbrev K : After-run_one_pass → After-count_at-k
-K r = r.before.before.before
+K r = r.before.before
 
 -- ---- refused in the first pass
 early : (c : Then-t-k) → let a = (S (K c.before)).args in
     OneDone a.columns a.run a.first.now (count a.second.now 0) a.x.now (a.stage - 1)
-    c.before.run_one_pass.result c.before.run_one_pass.new.1.1.1.1.1.1.1.0
+    c.run_one_pass.result c.run_one_pass.new.1.1.1.1.1.1.1.0
 early c =
-    let r = c.before in
     let l = c.if-t-k.true in
-    one-stages (K r).before.count_at-m.ensures (omega (arith, r.before.before.smaller.ensures)) r.run_one_pass.ensures
+    one-stages (K c.before).before.count-at2.ensures (omega (arith, c.smaller.ensures)) c.run_one_pass.ensures
 
 here : (c : Then-t-k) → let a = (S (K c.before)).args in a.stage ≤ count a.first.now 1
-here c = let l = c.if-t-k.true in omega (arith, (K c.before).count_at-k.ensures)
+here c = let l = c.if-t-k.true in omega (arith, (K c.before).count-at3.ensures)
 
 next : (s : Start) → s.args.stage ≡ s.args.stage - 1 + 1
 next s = let l = s.requires.2.some in omega arith
 
 pub element_in_pass-requires : goal.element_in_pass-requires
 element_in_pass-requires c =
-    let c = (goal.at.element_in_pass-requires c).After-element_in_pass-arg-1 in
-    let t = c.before in
-    let k = K t.before in
+    let k = K (goal.at.element_in_pass-requires c).After-run_one_pass in
     let s = S k in
     let p = s.pre.0 in
     let o = accepted-order p.next in
-    let l = here t in (
+    let l = here (goal.at.element_in_pass-requires c).Then-t-k in (
       p.one,
       p.ones,
-      rw k.before.count_at-m.ensures o.least,
-      rw k.before.count_at-m.ensures o.most,
+      rw k.before.count-at2.ensures o.least,
+      rw k.before.count-at2.ensures o.most,
       omega (arith, s.pre.2.some),
-      one-small (early t) (s.pre.2.early l) (next s),
-      (early t).wide,
+      one-small (early (goal.at.element_in_pass-requires c).Then-t-k) (s.pre.2.early l) (next s),
+      (early (goal.at.element_in_pass-requires c).Then-t-k).wide,
     )
 
 pub returns-then-t-k : goal.returns-then-t-k
 returns-then-t-k c =
-    let c = (goal.at.returns-then-t-k c).After-element_in_pass in
-    let t = c.before.before in
-    let k = K t.before in
+    let k = K (goal.at.returns-then-t-k c).After-run_one_pass in
     let s = S k in
     let a = s.args in
     ends_at
-    (first-refused (count a.first.now 1) _ (one-named (early t) (s.pre.2.early (here t)) (next s) (here t)))
+    (first-refused (count a.first.now 1) _ (one-named (early (goal.at.returns-then-t-k c).Then-t-k) (s.pre.2.early (here (goal.at.returns-then-t-k c).Then-t-k)) (next s) (here (goal.at.returns-then-t-k c).Then-t-k)))
     refl
-    (c.element_in_pass.ensures ∙ named-same a.run a.first.now _ refl k.before.count_at-m.ensures refl)
+    (c.element_in_pass.ensures ∙ named-same a.run a.first.now _ refl k.before.count-at2.ensures refl)
 
 -- ---- refused in the second: the first is done
 whole : (c : Else-t-k) → let a = (S (K c.before)).args in
     OneDone a.columns a.run a.first.now (count a.second.now 0) a.x.now (count a.first.now 1)
-    c.before.run_one_pass.result c.before.run_one_pass.new.1.1.1.1.1.1.1.0
+    c.run_one_pass.result c.run_one_pass.new.1.1.1.1.1.1.1.0
 whole c =
-    let r = c.before in
     let l = c.if-t-k.false in
-    one-stages (K r).before.count_at-m.ensures (omega (arith, r.before.before.smaller.ensures, (K r).count_at-k.ensures))
-    r.run_one_pass.ensures
+    one-stages (K c.before).before.count-at2.ensures (omega (arith, c.smaller.ensures, (K c.before).count-at3.ensures))
+    c.run_one_pass.ensures
 
 over : (c : Else-t-k) → let a = (S (K c.before)).args in count a.first.now 1 < a.stage
-over c = let l = c.if-t-k.false in let m = (S (K c.before)).requires.2.some in omega (arith, (K c.before).count_at-k.ensures)
+over c = let l = c.if-t-k.false in let m = (S (K c.before)).requires.2.some in omega (arith, (K c.before).count-at3.ensures)
 
 later : (c : Else-t-k) → let a = (S (K c.before)).args in
     Later a.columns a.run a.first.now a.second.now a.x.now a.stage
 later c = (S (K c.before)).requires.2.late (over c)
 
-passed : (c : Else-t-k) → c.before.run_one_pass.result.ok ≡ true
+passed : (c : Else-t-k) → c.run_one_pass.result.ok ≡ true
 passed c = done-passes (whole c).reached (later c).first
 
 refused : (c : Else-t-k) → let a = (S (K c.before)).args in
@@ -118,35 +103,33 @@ refused : (c : Else-t-k) → let a = (S (K c.before)).args in
     (one_lines (other a.columns) (count a.first.now 0) a.second.now) a.second.now
     (laid (two_size a.columns a.first.now a.second.now)
     (one_lines a.columns (count a.second.now 0) a.first.now)
-    c.before.run_one_pass.new.1.1.1.1.1.1.1.0)) (a.stage - count a.first.now 1)
+    c.run_one_pass.new.1.1.1.1.1.1.1.0)) (a.stage - count a.first.now 1)
 refused c = rw (done-same (later c).first (one-done (whole c) refl (passed c))) at (later c).second
 
 pub run_turned-requires : goal.run_turned-requires
 run_turned-requires c =
-    let c = (goal.at.run_turned-requires c).After-run_turned-arg-1 in
-    let e = c.before in
-    let k = K e.before in
+    let k = K (goal.at.run_turned-requires c).After-run_one_pass in
     let s = S k in
     let p = s.pre.0 in
     let m = s.pre.2.most in (
       p.next,
       p.nexts,
-      rw k.before.before.count_at-n.ensures (accepted-order p.one).most,
-      omega (arith, k.count_at-k.ensures),
-      (whole e).small (passed e),
-      (whole e).wide,
+      rw k.before.before.count_at.ensures (accepted-order p.one).most,
+      omega (arith, k.count-at3.ensures),
+      (whole (goal.at.run_turned-requires c).Else-t-k).small (passed (goal.at.run_turned-requires c).Else-t-k),
+      (whole (goal.at.run_turned-requires c).Else-t-k).wide,
     )
 
 -- its turn, counted from the second pass
 abbrev E : After-run_turned → Else-t-k
-E q = q.before.before
+E q = q.before
 
 second : (q : After-run_turned) → let a = (S (K (E q).before)).args in
     TurnedDone a.run a.second.now (count a.first.now 0) (a.stage - 1 - count a.first.now 1)
-    (E q).before.run_one_pass.new.1.1.1.1.1.1.1.0 q.run_turned.result q.run_turned.new.1.1.1.1.1.0
+    (E q).before.run-one-pass.new.1.1.1.1.1.1.1.0 q.run_turned.result q.run_turned.new.1.1.1.1.1.0
 second q =
     let k = K (E q).before in
-    turned-stages k.before.before.count_at-n.ensures (omega (arith, k.count_at-k.ensures)) q.run_turned.ensures
+    turned-stages k.before.before.count_at.ensures (omega (arith, k.count-at3.ensures)) q.run_turned.ensures
 
 after : (c : Else-t-k) → let a = (S (K c.before)).args in
     a.stage - count a.first.now 1 ≡ a.stage - 1 - count a.first.now 1 + 1
@@ -154,9 +137,7 @@ after c = let l = over c in omega arith
 
 pub element_in_pass-requires-2 : goal.element_in_pass-requires-2
 element_in_pass-requires-2 c =
-    let c = (goal.at.element_in_pass-requires-2 c).After-element_in_pass-arg-2-1 in
-    let q = c.before in
-    let e = E q in
+    let e = E (goal.at.element_in_pass-requires-2 c).After-run_turned in
     let k = K e.before in
     let s = S k in
     let a = s.args in
@@ -166,28 +147,26 @@ element_in_pass-requires-2 c =
     let l = over e in (
       p.next,
       p.nexts,
-      rw k.before.before.count_at-n.ensures o.least,
-      rw k.before.before.count_at-n.ensures o.most,
-      omega (arith, k.count_at-k.ensures),
-      second-small a.columns a.run p (one-done (whole e) refl (passed e)) ((whole e).small (passed e)) (second q) (refused e)
+      rw k.before.before.count_at.ensures o.least,
+      rw k.before.before.count_at.ensures o.most,
+      omega (arith, k.count-at3.ensures),
+      second-small a.columns a.run p (one-done (whole e) refl (passed e)) ((whole e).small (passed e)) (second (goal.at.element_in_pass-requires-2 c).After-run_turned) (refused e)
           (after e),
-      q.run_turned.ensures.wide,
+      c.run_turned.ensures.wide,
     )
 
 pub returns : goal.returns
 returns c =
-    let c = (goal.at.returns c).After-element_in_pass-2 in
-    let q = c.before.before in
-    let e = E q in
+    let e = E (goal.at.returns c).After-run_turned in
     let k = K e.before in
     let s = S k in
     let a = s.args in
     let m = s.pre.2.most in
     let l = over e in
     ends_at
-    (second-named a.columns a.run s.pre.0 (one-done (whole e) refl (passed e)) ((whole e).small (passed e)) (second q)
+    (second-named a.columns a.run s.pre.0 (one-done (whole e) refl (passed e)) ((whole e).small (passed e)) (second (goal.at.returns c).After-run_turned)
     (refused e) (after e) (omega arith))
     (omega arith)
     (c.element_in_pass-2.ensures
-    ∙ named-same a.run a.second.now _ (other-not a.columns) k.before.before.count_at-n.ensures
-    (omega (arith, k.count_at-k.ensures)))
+    ∙ named-same a.run a.second.now _ (other-not a.columns) k.before.before.count_at.ensures
+    (omega (arith, k.count-at3.ensures)))

@@ -1,6 +1,6 @@
 -- Refused at stage 0 (`run_out`); else both passes end (`ran-is`, `two_is`), refused or done.
 use Rattle.std.proofs.Common.{◌≡◌, sym, ◌∙◌}
-use borrow.Author.Tests.{not-true, not-false}
+use borrow.Author.Tests.{not-false}
 use Rattle.factor.specs.RunReplies.{run_out, noted}
 use Rattle.factor.specs.Tasks.{ran}
 use Rattle.laws.specs.Accepted.{accepted-order, order-counts}
@@ -10,17 +10,13 @@ use Rattle.passrun.specs.EndLaws.{pair_run, ran-is, two_is, ends-refused, ends-d
 use Rattle.passrun.specs.Laid.{laid}
 use Rattle.rules.specs.Numbers.{count}
 use Rattle.passrun.proofs.block.run_two.Goals as goal
-use Rattle.passrun.proofs.block.run_two.Goals.{After-count_at, After-note, After-note-then-not-r, After-store-arg-1, After-y-1, Else-not-r, Start}
+use Rattle.passrun.proofs.block.run_two.Goals.{After-store, Start}
 
 pub returns-then-not-is_inside : goal.returns-then-not-is_inside
 returns-then-not-is_inside c =
-    let c = (goal.at.returns-then-not-is_inside c).After-note in
-    let f = c.before in
-    let t = f.before.before in
-    let s = t.before.before in
-    let out = sym t.before.is_inside.ensures ∙ not-true _ t.if-not-is_inside.true in
-    run_out _ _ s.args.x.now _ out s.args.run s.requires.input
-    (noted (rw f.first_beyond.ensures at c.note.ensures))
+    let out = sym c.is_inside.ensures ∙ c.if-not-is_inside.true in
+    run_out _ _ c.args.x.now _ out c.args.run c.requires.input
+    (noted (rw c.first_beyond.ensures at c.note.ensures))
 
 -- the document's run
 whole : (s : Start) → let a = s.args in
@@ -33,55 +29,36 @@ whole s =
 
 pub returns-then-not-r : goal.returns-then-not-r
 returns-then-not-r c =
-    let c = (goal.at.returns-then-not-r c).After-note-then-not-r in
-    let e = c.before in
-    let s = e.before.before.before.before.before.before.before.before.before in
-    let a = s.args in
-    ends-refused a.run.task a.y-1.now (whole s ∙ e.element_of_two.ensures) c.note-then-not-r.ensures
+    let a = c.args in
+    ends-refused a.run.task a.y.now (whole (goal.at.returns-then-not-r c).Start ∙ c.element_of_two.ensures) c.note-then-not-r.ensures
 
 pub count_at-requires : goal.count_at-requires
-count_at-requires c =
-    let c = (goal.at.count_at-requires c).Else-not-r in
-    order-counts c.before.before.before.before.before.before.requires.one
+count_at-requires c =     order-counts c.requires.one
 
 pub count_at-requires-2 : goal.count_at-requires-2
-count_at-requires-2 c =
-    let c = (goal.at.count_at-requires-2 c).After-count_at in
-    order-counts c.before.before.before.before.before.before.before.requires.next
+count_at-requires-2 c =     order-counts c.requires.next
 
 pub store-requires : goal.store-requires
 store-requires c =
-    let c = (goal.at.store-requires c).After-store-arg-1 in
-    let m = c.before.before in
-    let k = m.before in
-    let p = k.before.before.before in
-    let s = p.before.before.before.before in
-    let a = s.args in (
-      rw k.count_at.ensures (accepted-order s.requires.one).most,
-      rw m.count_at-2.ensures (accepted-order s.requires.next).most,
-      p.run_two_passes-r.ensures.wide,
-      rw (other-not a.columns, k.count_at.ensures, m.count_at-2.ensures)
-          (s.requires.output ∙ sym (sizes-turn a.columns (count a.second.now 0) (count a.first.now 0))),
+    let a = c.args in (
+      rw c.count_at.ensures (accepted-order c.requires.one).most,
+      rw c.count_at-2.ensures (accepted-order c.requires.next).most,
+      c.run_two_passes-r.ensures.wide,
+      rw (other-not a.columns, c.count_at.ensures, c.count_at-2.ensures)
+          (c.requires.output ∙ sym (sizes-turn a.columns (count a.second.now 0) (count a.first.now 0))),
     )
 
 -- the output, of the orders themselves
-stored : (c : After-y-1) → let p = c.before.before.before.before.before.before.before.before in
-    let a = p.before.before.before.before.args in
-    c.before.store.new.1.1.1.1.0
+stored : (c : After-store) → let a = c.args in
+    c.store.new.1.1.1.1.0
     ≡ laid (two_size a.columns a.first.now a.second.now)
     (one_lines (other a.columns) (count a.first.now 0) a.second.now)
-    p.run_two_passes-r.new.1.1.1.1.1.1.1.0
+    c.run_two_passes-r.new.1.1.1.1.1.1.1.0
 stored c =
-    let m = c.before.before.before.before in
-    let k = m.before in
-    let a = k.before.before.before.before.before.before.before.args in
-    stored-as a.columns a.first.now a.second.now _ k.count_at.ensures m.count_at-2.ensures
-    c.before.store.ensures
+    let a = c.args in
+    stored-as a.columns a.first.now a.second.now _ c.count_at.ensures c.count_at-2.ensures
+    c.store.ensures
 
 pub returns : goal.returns
 returns c =
-    let c = (goal.at.returns c).After-y-1 in
-    let d = c.before.before.before.before.before.before in
-    let p = d.before.before in
-    let s = p.before.before.before.before in
-    ends-done _ s.args.y-1.now _ (whole s ∙ p.run_two_passes-r.ensures.takes (not-false _ d.if-not-r.false)) (stored c)
+    ends-done _ c.args.y.now _ (whole (goal.at.returns c).Start ∙ c.run_two_passes-r.ensures.takes (not-false _ c.if-not-r.false)) (stored (goal.at.returns c).After-store)

@@ -2,7 +2,7 @@
 use Rattle.std.proofs.Common.{ap, ◌∙◌, arith, length}
 use Rattle.passrun.specs.Layout.{length-turning}
 use Rattle.passrun.proofs.layout.turn.Goals as goal
-use Rattle.passrun.proofs.layout.turn.Goals.{After-exchange-arg-1, At-loop-i, Start}
+use Rattle.passrun.proofs.layout.turn.Goals.{At-loop-i, Start}
 
 -- where the function began
 abbrev S : At-loop-i → Start
@@ -10,13 +10,9 @@ S l = l.before.before.before
 
 pub exchange-requires : goal.exchange-requires
 exchange-requires c =
-    let c = (goal.at.exchange-requires c).After-exchange-arg-1 in
-    let q = c.before in
-    let i = q.before in
-    let l = i.before in
-    let p = (S l).requires in
-    let t = i.loop-i-test.true in (
-      omega (arith, p.0, p.1, l.loop-i.invariant.2),
-      omega (arith, q.smaller.ensures),
-      ap length l.loop-i.invariant.3 ∙ length-turning _ l.loop-i.i (S l).args.x.now ∙ p.2,
+    let p = (S (goal.at.exchange-requires c).At-loop-i).requires in
+    let t = c.loop-i-test.true in (
+      omega (arith, p.0, p.1, c.loop-i.invariant.2),
+      omega (arith, c.smaller.ensures),
+      ap length c.loop-i.invariant.3 ∙ length-turning _ c.loop-i.i (S (goal.at.exchange-requires c).At-loop-i).args.x.now ∙ p.2,
     )

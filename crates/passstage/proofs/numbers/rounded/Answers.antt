@@ -18,11 +18,9 @@ floor-small : (s : Start) → Within most_new (s.args.h +ℤ shr_z s.args.l unit
 floor-small s = within-+ s.requires.0 (carry-small (within-le (omega arith) s.requires.1))
 
 -- the floor of the whole sum
-floor : (c : After-wide) → let s = c.before in
-    to_z w64 (of_z w64 c.wide.result) ≡ s.args.h +ℤ shr_z s.args.l unit
+floor : (c : After-wide) → to_z w64 (of_z w64 c.wide.result) ≡ c.args.h +ℤ shr_z c.args.l unit
 floor c =
-    let s = c.before in
-    back w64 _ c.wide.type_inv ∙ c.wide.ensures ∙ rw (carry s, to_z-of_z s.ranges.h) (reads w32 (floor-small s) tt)
+    back w64 _ c.wide.type_inv ∙ c.wide.ensures ∙ rw (carry c.before, to_z-of_z c.ranges.h) (reads w32 (floor-small c.before) tt)
 
 abbrev start : After-lift-a → Start
 start c = c.before.before
@@ -40,27 +38,24 @@ lift-small s =
 
 pub overflow_cast-a : goal.overflow_cast-a
 overflow_cast-a c =
-    let c = (goal.at.overflow_cast-a c).After-lift-a in
-    rw (lifted c) (fits (lift-small (start c)) tt)
+        rw (lifted (goal.at.overflow_cast-a c).After-lift-a) (fits (lift-small (start (goal.at.overflow_cast-a c).After-lift-a)) tt)
 
 sum-small : (s : Start) → Within (most_parts + unit / 2) (s.args.l +ℤ pos (A s))
 sum-small s = within-+ s.requires.1 (lift-small s)
 
 pub overflow_add-result : goal.overflow_add-result
 overflow_add-result c =
-    let c = (goal.at.overflow_add-result c).After-lift-a in
-    let s = start c in
-    rw (lifted c, reads w32 (lift-small s) tt, to_z-of_z s.fits.l) (fits (sum-small s) tt)
+    let s = start (goal.at.overflow_add-result c).After-lift-a in
+    rw (lifted (goal.at.overflow_add-result c).After-lift-a, reads w32 (lift-small s) tt, to_z-of_z s.fits.l) (fits (sum-small s) tt)
 
 new-small : (s : Start) → Within most_new (s.args.h +ℤ shr_z (s.args.l +ℤ pos (A s)) unit)
 new-small s = within-+ s.requires.0 (carry-small (sum-small s))
 
 pub overflow_add-result-2 : goal.overflow_add-result-2
 overflow_add-result-2 c =
-    let c = (goal.at.overflow_add-result-2 c).After-lift-a in
-    let s = start c in
+    let s = start (goal.at.overflow_add-result-2 c).After-lift-a in
     rw (
-      lifted c,
+      lifted (goal.at.overflow_add-result-2 c).After-lift-a,
       reads w32 (lift-small s) tt,
       to_z-of_z s.fits.l,
       reads w32 (sum-small s) tt,
@@ -70,10 +65,9 @@ overflow_add-result-2 c =
 
 pub returns : goal.returns
 returns c =
-    let c = (goal.at.returns c).After-lift-a in
-    let s = start c in
+    let s = start (goal.at.returns c).After-lift-a in
     rw (
-      lifted c,
+      lifted (goal.at.returns c).After-lift-a,
       reads w32 (lift-small s) tt,
       to_z-of_z s.fits.l,
       reads w32 (sum-small s) tt,

@@ -4,39 +4,31 @@ use Rattle.factor.specs.SumBounds.{bounded-le}
 use Rattle.passstage.specs.Parts.{parting-none, parting-next, parting-small}
 use Rattle.whole.specs.Machine.{reads}
 use Rattle.passstage.proofs.sums.add_entries.Goals as goal
-use Rattle.passstage.proofs.sums.add_entries.Goals.{After-add_entry, After-add_entry-arg-in-loop-j-1, In-loop-j, Start}
+use Rattle.passstage.proofs.sums.add_entries.Goals.{In-loop-j}
 
 pub loop-j-init : goal.loop-j-init
-loop-j-init c =
-    let c = (goal.at.loop-j-init c).Start in
-    (omega arith, parting-none c.requires.0 c.requires.1)
+loop-j-init c =     (omega arith, parting-none c.requires.0 c.requires.1)
 
 -- column j lies in the block
-column : (i : In-loop-j) → i.before.before.args.k + i.before.loop-j.j * 16 + 16 ≤ 256
-column i = i.before.before.requires.0.places i.before.loop-j.j i.loop-j-test.true
+column : (i : In-loop-j) → i.args.k + i.loop-j.j * 16 + 16 ≤ 256
+column i = i.requires.0.places i.loop-j.j i.loop-j-test.true
 
 pub add_entry-requires : goal.add_entry-requires
 add_entry-requires c =
-    let c = (goal.at.add_entry-requires c).After-add_entry-arg-in-loop-j-1 in
-    let i = c.before.before in
-    let s = i.before.before in
-    let l = i.before.loop-j in
-    let t = s.requires.0 in
-    let e = t.entries l.j i.loop-j-test.true in
+    let l = c.loop-j in
+    let t = c.requires.0 in
+    let e = t.entries l.j c.loop-j-test.true in
     rw (reads w32 e tt) (
-      s.requires.1,
-      omega (arith, column i, s.requires.1),
+      c.requires.1,
+      omega (arith, column (goal.at.add_entry-requires c).In-loop-j, c.requires.1),
       e,
       t.numbers,
-      bounded-le (let d = t.few in let g = i.loop-j-test.true in omega arith) (parting-small t l.invariant.0 l.invariant.1),
+      bounded-le (let d = t.few in let g = c.loop-j-test.true in omega arith) (parting-small t l.invariant.0 l.invariant.1),
       l.invariant.1.long,
     )
 
 pub loop-j-preserved : goal.loop-j-preserved
 loop-j-preserved c =
-    let c = (goal.at.loop-j-preserved c).After-add_entry in
-    let i = c.before.before.before in
-    let s = i.before.before in
-    let l = i.before.loop-j in
-    let e = s.requires.0.entries l.j i.loop-j-test.true in
-    (omega arith, parting-next s.requires.0 l.j l.invariant.1 (rw (reads w32 e tt) at c.add_entry.ensures))
+    let l = c.loop-j in
+    let e = c.requires.0.entries l.j c.loop-j-test.true in
+    (omega arith, parting-next c.requires.0 l.j l.invariant.1 (rw (reads w32 e tt) at c.add_entry.ensures))

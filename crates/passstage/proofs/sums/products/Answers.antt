@@ -10,62 +10,52 @@ use Rattle.passstage.proofs.sums.products.Goals as goal
 use Rattle.passstage.proofs.sums.products.Goals.{After-rest_part, After-whole_part, In-loop-c, Start}
 
 room : (i : In-loop-c) →
-    (i.before.before.args.k + i.before.loop-c.c < 256) × (i.before.loop-c.c < 16)
+    (i.args.k + i.loop-c.c < 256) × (i.loop-c.c < 16)
 room i =
-    let s = i.before.before in
-    let g = s.requires.0 in
-    let h = s.requires.1 in
+    let g = i.requires.0 in
+    let h = i.requires.1 in
     let l = i.loop-c-test.true in (omega arith, omega arith)
 
 -- the number whose turn it is
 abbrev Z : In-loop-c → ℤ
-Z i = at i.before.before.args.x.now (i.before.before.args.k + i.before.loop-c.c)
+Z i = at i.args.x.now (i.args.k + i.loop-c.c)
 
 number : (i : In-loop-c) → Within bound (Z i)
-number i = let s = i.before.before in s.requires.3.small (s.args.k + i.before.loop-c.c)
+number i = i.requires.3.small (i.args.k + i.loop-c.c)
 
 -- the products
 entry : (s : Start) → to_z w32 (of_z w32 s.args.a) ≡ s.args.a
 entry s = to_z-of_z s.ranges.a
 
-whole-there : (c : After-whole_part) → let i = c.before.before in
-    to_z w32 (of_z w32 c.whole_part.result) ≡ whole (Z i)
+whole-there : (c : After-whole_part) → to_z w32 (of_z w32 c.whole_part.result) ≡ whole (Z c.before)
 whole-there c =
-    back w32 _ c.whole_part.type_inv ∙ c.whole_part.ensures ∙ rw (reads w32 (number c.before.before) tt)
+    back w32 _ c.whole_part.type_inv ∙ c.whole_part.ensures ∙ rw (reads w32 (number c.before) tt)
 
 pub overflow_mul-t : goal.overflow_mul-t
 overflow_mul-t c =
-    let c = (goal.at.overflow_mul-t c).After-whole_part in
-    let i = c.before.before in
-    rw (entry i.before.before, whole-there c) (fits (within-* i.before.before.requires.2 (whole-small (Z i) (number i))) tt)
+    rw (entry (goal.at.overflow_mul-t c).Start, whole-there (goal.at.overflow_mul-t c).After-whole_part) (fits (within-* c.requires.2 (whole-small (Z (goal.at.overflow_mul-t c).In-loop-c) (number (goal.at.overflow_mul-t c).In-loop-c))) tt)
 
-rest-there : (c : After-rest_part) → let i = c.before.before.before.before in
-    to_z w32 (of_z w32 c.rest_part.result) ≡ rest (Z i)
+rest-there : (c : After-rest_part) → to_z w32 (of_z w32 c.rest_part.result) ≡ rest (Z c.before.before)
 rest-there c =
-    back w32 _ c.rest_part.type_inv ∙ c.rest_part.ensures ∙ rw (reads w32 (number c.before.before.before.before) tt)
+    back w32 _ c.rest_part.type_inv ∙ c.rest_part.ensures ∙ rw (reads w32 (number c.before.before) tt)
 
 pub overflow_mul-t-in-loop-c : goal.overflow_mul-t-in-loop-c
 overflow_mul-t-in-loop-c c =
-    let c = (goal.at.overflow_mul-t-in-loop-c c).After-rest_part in
-    let i = c.before.before.before.before in
-    rw (entry i.before.before, rest-there c) (fits (within-* i.before.before.requires.2 (rest-small (Z i))) tt)
+    rw (entry (goal.at.overflow_mul-t-in-loop-c c).Start, rest-there (goal.at.overflow_mul-t-in-loop-c c).After-rest_part) (fits (within-* c.requires.2 (rest-small (Z (goal.at.overflow_mul-t-in-loop-c c).In-loop-c))) tt)
 
 pub loop-c-preserved : goal.loop-c-preserved
 loop-c-preserved c =
-    let c = (goal.at.loop-c-preserved c).After-rest_part in
-    let i = c.before.before.before.before in
-    let s = i.before.before in
-    let l = i.before.loop-c in
-    let a = s.requires.2 in (
+    let l = c.loop-c in
+    let a = c.requires.2 in (
       omega arith,
-      raised-next l.c (room i).1 l.invariant.1
+      raised-next l.c (room (goal.at.loop-c-preserved c).In-loop-c).1 l.invariant.1
           (rw (
-            entry s,
-            whole-there c.before.before,
-            reads w32 (within-* a (whole-small (Z i) (number i))) tt,
-            s.requires.4,
+            entry (goal.at.loop-c-preserved c).Start,
+            whole-there (goal.at.loop-c-preserved c).After-whole_part,
+            reads w32 (within-* a (whole-small (Z (goal.at.loop-c-preserved c).In-loop-c) (number (goal.at.loop-c-preserved c).In-loop-c))) tt,
+            c.requires.4,
             zero-at 32 l.c,
           ) (sym (+ℤ_idl _)))
-          (rw (entry s, rest-there c, reads w32 (within-* a (rest-small (Z i))) tt, s.requires.4, zero-at 32 (16 + l.c))
+          (rw (entry (goal.at.loop-c-preserved c).Start, rest-there (goal.at.loop-c-preserved c).After-rest_part, reads w32 (within-* a (rest-small (Z (goal.at.loop-c-preserved c).In-loop-c))) tt, c.requires.4, zero-at 32 (16 + l.c))
           (sym (+ℤ_idl _))),
     )

@@ -5,15 +5,11 @@ use Rattle.recipe.specs.Trips.{accepted-codables}
 use Rattle.rules.specs.Calls.{reply, write}
 use Rattle.rules.specs.declared.Answer.{Answer}
 use Rattle.recipe.proofs.writing.write.Goals as goal
-use Rattle.recipe.proofs.writing.write.Goals.{After-encode-arg-1}
 
 pub encode-requires : goal.encode-requires
 unfolding write reply
 encode-requires c =
-    let c = (goal.at.encode-requires c).After-encode-arg-1 in
-    let t = c.before in
-    let r = t.before.before in
-    let s = r.before.before.args in
-    let fine = ap (λ (x : Answer). x.number) (sym r.write_answer-answer.ensures) ∙ t.if-answer-ne0.false in
-    let w = wrote s.sheet.now s.out-1.now fine in
+    let s = c.args in
+    let fine = ap (λ (x : Answer). x.number) (sym c.write_answer-answer.ensures) ∙ c.if-answer-ne0.false in
+    let w = wrote s.sheet.now s.out.now fine in
     (accepted-codables s.sheet.now w.sheet, w.fits)

@@ -3,21 +3,16 @@ use Rattle.std.proofs.Common.{arith}
 use Rattle.recipebytes.specs.Spelling.{spell-most}
 use Rattle.recipebytes.specs.Writing.{size_none, size-on}
 use Rattle.recipebytes.proofs.stream.packed_size.Goals as goal
-use Rattle.recipebytes.proofs.stream.packed_size.Goals.{After-code_size-total, Start}
 
 pub loop-k-init : goal.loop-k-init
-loop-k-init c =
-    let c = (goal.at.loop-k-init c).Start in
-    (omega arith, size_none _)
+loop-k-init c =     (omega arith, size_none _)
 
 pub overflow_add-total : goal.overflow_add-total
 overflow_add-total c =
-    let c = (goal.at.overflow_add-total c).After-code_size-total in
-    let most = c.before.before.before.loop-k.invariant.1.most in
-    omega (arith, c.code_size-total.ensures, spell-most c.before.code_at.result)
+    let most = c.loop-k.invariant.1.most in
+    omega (arith, c.code_size-total.ensures, spell-most c.code_at.result)
 
 pub loop-k-preserved : goal.loop-k-preserved
 loop-k-preserved c =
-    let c = (goal.at.loop-k-preserved c).After-code_size-total in
-    let l = c.before.before.before.loop-k in
-    (omega arith, size-on (omega arith) c.before.code_at.ensures c.code_size-total.ensures l.invariant.1)
+    let l = c.loop-k in
+    (omega arith, size-on (omega arith) c.code_at.ensures c.code_size-total.ensures l.invariant.1)

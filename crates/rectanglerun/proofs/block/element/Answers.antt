@@ -10,17 +10,13 @@ use Rattle.rectanglerun.specs.Runs.{paired, size_of, size-most, joint_run_by}
 use Rattle.rectanglerun.specs.Turns.{StandsAt, loads-copied, named-there}
 use Rattle.rules.specs.Numbers.{count}
 use Rattle.rectanglerun.proofs.block.element.Goals as goal
-use Rattle.rectanglerun.proofs.block.element.Goals.{After-copy_front-arg-1, After-count_at-n1, After-count_at-n2, After-joint_element, After-joint_element-arg-1, After-nth_start-i, After-run_stages, After-run_stages-arg-1, Else-not-named, Start}
+use Rattle.rectanglerun.proofs.block.element.Goals.{After-count_at-n2, After-run_stages, Start}
 
 pub count_at-n1-requires : goal.count_at-n1-requires
-count_at-n1-requires c =
-    let c = (goal.at.count_at-n1-requires c).Else-not-named in
-    order-counts c.before.requires.0.column
+count_at-n1-requires c =     order-counts c.requires.0.column
 
 pub count_at-n2-requires : goal.count_at-n2-requires
-count_at-n2-requires c =
-    let c = (goal.at.count_at-n2-requires c).After-count_at-n1 in
-    order-counts c.before.before.requires.0.row
+count_at-n2-requires c =     order-counts c.requires.0.row
 
 -- the turn of the stage
 in-turn : (s : Start) → s.args.stage - 1 < count s.args.col.now 1
@@ -41,25 +37,21 @@ S c = c.before.before.before
 
 pub copy_front-requires : goal.copy_front-requires
 copy_front-requires c =
-    let c = (goal.at.copy_front-requires c).After-copy_front-arg-1 in
-    let s = S c.before in
+    let s = S (goal.at.copy_front-requires c).After-count_at-n2 in
     let h = few s in
     let l : length s.args.b.now ≡ 256 = ap length s.pre.5 in
     (omega arith, omega arith)
 
 pub run_stages-requires : goal.run_stages-requires
 run_stages-requires c =
-    let c = (goal.at.run_stages-requires c).After-run_stages-arg-1 in
-    let f = c.before in
-    let n = f.before.before in
-    let s = S n in
+    let s = S (goal.at.run_stages-requires c).After-count_at-n2 in
     let l = loads-copied s.pre.0 s.args.run {x = s.args.x.now} (few s) s.pre.4
-    (rw s.pre.5 at f.copy_front.ensures) in (
+    (rw s.pre.5 at c.copy_front.ensures) in (
       s.pre.0,
       s.pre.1,
       s.pre.2,
-      n.before.count_at-n1.ensures,
-      n.count_at-n2.ensures,
+      c.count_at-n1.ensures,
+      c.count_at-n2.ensures,
       omega arith,
       omega (arith, in-turn s),
       l.stands.small,
@@ -69,47 +61,37 @@ run_stages-requires c =
 -- the run stands before the refused stage
 stands :
     (c : After-run_stages) →
-    let a = (S c.before.before.before.before).args in
+    let a = (S c.before.before).args in
     StandsAt a.run a.col.now a.row.now (joint_run_by a.run a.col.now a.row.now (padded_block 256 a.x.now))
     (a.stage - 1) c.run_stages.new.1.1.1.1.1.1.1.1.1.0
 stands c =
-    let f = c.before.before in
-    let s = S f.before.before in
+    let s = S c.before.before in
     let l = loads-copied s.pre.0 s.args.run {x = s.args.x.now} (few s) s.pre.4
-    (rw s.pre.5 at f.copy_front.ensures) in
+    (rw s.pre.5 at c.copy_front.ensures) in
     progress-goes c.run_stages.ensures.0 l.stands s.pre.8 (omega (arith, s.pre.6))
 
 pub nth_start-j-requires : goal.nth_start-j-requires
 nth_start-j-requires c =
-    let c = (goal.at.nth_start-j-requires c).After-nth_start-i in
-    let s = S c.before.before.before.before.before in (s.pre.0.row, s.pre.2, rw (agree s) (in-turn s))
+    let s = S (goal.at.nth_start-j-requires c).After-count_at-n2 in (s.pre.0.row, s.pre.2, rw (agree s) (in-turn s))
 
 pub joint_element-requires : goal.joint_element-requires
 joint_element-requires c =
-    let c = (goal.at.joint_element-requires c).After-joint_element-arg-1 in
-    let j = c.before in
-    let r = j.before.before in
-    let n = r.before.before.before.before in
-    let s = S n in
+    let s = S (goal.at.joint_element-requires c).After-count_at-n2 in
     let m = s.pre.0 in
-    let e = n.before.count_at-n1.ensures in
-    let d = n.count_at-n2.ensures in
+    let e = c.count_at-n1.ensures in
+    let d = c.count_at-n2.ensures in
     let p = paired m (nth_stage s.args.run.task (count s.args.col.now 1) (s.args.stage - 1))
-    (stage-below _ _ _ (in-turn s)) e d j.before.nth_start-i.ensures (j.nth_start-j.ensures ∙ rw (agree s)) in
-    (p, (stands r).small, rw (e, d) (omega (arith, size-most m, r.run_stages.ensures.1)))
+    (stage-below _ _ _ (in-turn s)) e d c.nth_start-i.ensures (c.nth_start-j.ensures ∙ rw (agree s)) in
+    (p, (stands (goal.at.joint_element-requires c).After-run_stages).small, rw (e, d) (omega (arith, size-most m, c.run_stages.ensures.1)))
 
 pub returns : goal.returns
 returns c =
-    let c = (goal.at.returns c).After-joint_element in
-    let j = c.before.before in
-    let r = j.before.before in
-    let n = r.before.before.before.before in
-    let s = S n in
+    let s = S (goal.at.returns c).After-count_at-n2 in
     let e = rw (
-      n.before.count_at-n1.ensures,
-      n.count_at-n2.ensures,
-      j.before.nth_start-i.ensures,
-      j.nth_start-j.ensures,
+      c.count_at-n1.ensures,
+      c.count_at-n2.ensures,
+      c.nth_start-i.ensures,
+      c.nth_start-j.ensures,
       agree s,
     ) at c.joint_element.ensures in
-    rw e (named-there s.args.run _ _ s.args.stage s.pre.6 s.pre.7 (stands r) s.pre.8)
+    rw e (named-there s.args.run _ _ s.args.stage s.pre.6 s.pre.7 (stands (goal.at.returns c).After-run_stages) s.pre.8)

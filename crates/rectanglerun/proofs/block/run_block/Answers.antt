@@ -10,32 +10,24 @@ use Rattle.laws.specs.AnswersInTurn.{ran_reply}
 use Rattle.rectanglerun.specs.Runs.{joint_ran, joint_run_by, stages-good, size-most}
 use Rattle.rules.specs.declared.Answer.{Answer}
 use Rattle.rectanglerun.proofs.block.run_block.Goals as goal
-use Rattle.rectanglerun.proofs.block.run_block.Goals.{After-count_at-n1, After-load-from, After-note, After-note-then-not-r, After-run_stages-r, After-stop_of-to, After-y-1, Start}
+use Rattle.rectanglerun.proofs.block.run_block.Goals.{After-load-from, After-run_stages-r, Start}
 
 pub returns-then-not-is_inside : goal.returns-then-not-is_inside
 returns-then-not-is_inside c =
-    let c = (goal.at.returns-then-not-is_inside c).After-note in
-    let f = c.before in
-    let t = f.before.before in
-    let s = t.before.before in
-    let out = sym t.before.is_inside.ensures ∙ not-true _ t.if-not-is_inside.true in
+    let out = sym c.is_inside.ensures ∙ c.if-not-is_inside.true in
     given-all
-    (run_out _ _ s.args.x.now _ out s.args.run s.requires.3
-    (noted (rw f.first_beyond.ensures at c.note.ensures)))
+    (run_out _ _ c.args.x.now _ out c.args.run c.requires.3
+    (noted (rw c.first_beyond.ensures at c.note.ensures)))
 
 pub count_at-n1-requires : goal.count_at-n1-requires
-count_at-n1-requires c =
-    let c = (goal.at.count_at-n1-requires c).After-stop_of-to in
-    order-counts c.before.before.before.before.before.requires.0.column
+count_at-n1-requires c =     order-counts c.requires.0.column
 
 pub count_at-n2-requires : goal.count_at-n2-requires
-count_at-n2-requires c =
-    let c = (goal.at.count_at-n2-requires c).After-count_at-n1 in
-    order-counts c.before.before.before.before.before.before.requires.0.row
+count_at-n2-requires c =     order-counts c.requires.0.row
 
 -- after the copy in
 abbrev L : After-run_stages-r → After-load-from
-L c = c.before.before.before.before.before
+L c = c.before.before.before.before
 
 -- the reply to the run of the block in its room is the reply to the run of the lent numbers
 replies :
@@ -45,34 +37,26 @@ replies :
     let named = s.args.named in
     GivesAsked named a z
     (ended (joint_run_by run s.args.col.now s.args.row.now (padded_block 256 x)) (number_of run.task)
-    s.args.y-1.now) →
+    s.args.y.now) →
     GivesAsked named a z
-    (ran_reply (number_of run.task) (joint_ran run s.args.col.now s.args.row.now x) s.args.y-1.now)
+    (ran_reply (number_of run.task) (joint_ran run s.args.col.now s.args.row.now x) s.args.y.now)
 replies s h =
     let m = s.requires.0 in
     rw (run_ends 256 (stages-good m) s.args.x.now _ s.requires.4 s.args.run s.requires.3 (size-most m)) at h
 
 pub returns-then-not-r : goal.returns-then-not-r
 returns-then-not-r c =
-    let c = (goal.at.returns-then-not-r c).After-note-then-not-r in
-    let f = c.before in
-    let t = f.before.before.before in
-    let r = t.before.before in
-    let l = L r in
+    let l = L (goal.at.returns-then-not-r c).After-run_stages-r in
     let s = l.before.before.before.before in
-    let q = (r.run_stages-r.ensures.0.stops (not-true _ t.if-not-r.true)).2 _ l.load-from.ensures.stands in
+    let q = (c.run_stages-r.ensures.0.stops (not-true _ c.if-not-r.true)).2 _ l.load.ensures.stands in
     replies s
-    (ended-noted (number_of s.args.run.task) s.args.y-1.now q.is c.note-then-not-r.ensures f.element.ensures)
+    (ended-noted (number_of s.args.run.task) s.args.y.now q.is c.note-then-not-r.ensures c.element.ensures)
 
 pub returns : goal.returns
 unfolding end_answer
 returns c =
-    let c = (goal.at.returns c).After-y-1 in
-    let w = c.before in
-    let e = w.before.before.before in
-    let r = e.before.before in
-    let l = L r in
+    let l = L (goal.at.returns c).After-run_stages-r in
     let s = l.before.before.before.before in
-    let on = r.run_stages-r.ensures.0.passes (not-false _ e.if-not-r.false) _ l.load-from.ensures.stands in
-    let z = w.store.ensures _ on in
-    replies s (ended-done (number_of s.args.run.task) s.args.y-1.now z.ends refl z.written)
+    let on = c.run_stages-r.ensures.0.passes (not-false _ c.if-not-r.false) _ l.load.ensures.stands in
+    let z = c.store.ensures _ on in
+    replies s (ended-done (number_of s.args.run.task) s.args.y.now z.ends refl z.written)

@@ -1,10 +1,7 @@
 -- The two ends are `stops-before` and `stops-after`.
 use Rattle.laws.specs.Accepted.{count-counts}
 use Rattle.rectanglerun.proofs.ends.stop_of.Goals as goal
-use Rattle.rectanglerun.proofs.ends.stop_of.Goals.{Start}
 
 -- The two ends are `stops-before` and `stops-after`.
 pub count_at-many-requires : goal.count_at-many-requires
-count_at-many-requires c =
-    let c = (goal.at.count_at-many-requires c).Start in
-    count-counts c.requires.0
+count_at-many-requires c =     count-counts c.requires.0

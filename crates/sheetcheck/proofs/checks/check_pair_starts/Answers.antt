@@ -5,33 +5,27 @@ use Rattle.laws.specs.AnswersInTurn.{answer-stops, answer-passes, in-turn}
 use Rattle.rules.specs.Answers.{pair_checked}
 use Rattle.rules.specs.declared.Answer.{Answer}
 use Rattle.sheetcheck.proofs.checks.check_pair_starts.Goals as goal
-use Rattle.sheetcheck.proofs.checks.check_pair_starts.Goals.{After-check_match, Else-a-ne0, Then-a-ne0}
 
 pub returns-then-a-ne0 : goal.returns-then-a-ne0
 unfolding pair_checked
 returns-then-a-ne0 c =
-    let c = (goal.at.returns-then-a-ne0 c).Then-a-ne0 in
-    let e = c.before.before.check_two_starts-a.ensures.0 in (
+    let e = c.check_two_starts-a.ensures.0 in (
       e ∙ sym (in-turn _ _ _ ∙ answer-stops _ _ (λ z. c.if-a-ne0.true (ap (λ (a : Answer). a.number) e ∙ z))),
       λ z. absurd (c.if-a-ne0.true z),
     )
 
 pub check_match-requires : goal.check_match-requires
 check_match-requires c =
-    let c = (goal.at.check_match-requires c).Else-a-ne0 in
-    let o = c.before.before in
-    let d = o.before.before.check_two_starts-a.ensures in
-    let a = two-read _ _ (ap (λ (x : Answer). x.number) (sym d.0) ∙ o.if-a-ne0.false) in
-    let s = d.1 o.if-a-ne0.false in
+    let d = c.check-two-starts.ensures in
+    let a = two-read _ _ (ap (λ (x : Answer). x.number) (sym d.0) ∙ c.if1.false) in
+    let s = d.1 c.if1.false in
     (a.0, a.1, s.0, s.1)
 
 pub returns : goal.returns
 unfolding pair_checked
 returns c =
-    let c = (goal.at.returns c).After-check_match in
-    let o = c.before.before.before in
-    let d = o.before.before.check_two_starts-a.ensures in (
+    let d = c.check-two-starts.ensures in (
       c.check_match.ensures
-          ∙ sym (in-turn _ _ _ ∙ answer-passes _ _ (ap (λ (a : Answer). a.number) (sym d.0) ∙ o.if-a-ne0.false)),
-      λ z. d.1 o.if-a-ne0.false,
+          ∙ sym (in-turn _ _ _ ∙ answer-passes _ _ (ap (λ (a : Answer). a.number) (sym d.0) ∙ c.if1.false)),
+      λ z. d.1 c.if1.false,
     )

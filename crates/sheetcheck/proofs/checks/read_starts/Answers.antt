@@ -3,15 +3,11 @@ use Rattle.std.proofs.Common.{sym, ap, ◌∙◌}
 use Rattle.laws.specs.Accepted.{accepted-reading, reading-accepted}
 use Rattle.rules.specs.declared.Mark.{Mark}
 use Rattle.sheetcheck.proofs.checks.read_starts.Goals as goal
-use Rattle.sheetcheck.proofs.checks.read_starts.Goals.{After-read_sheet, Then-is_faultless}
 
 pub returns-then-is_faultless : goal.returns-then-is_faultless
-returns-then-is_faultless c =
-    let c = (goal.at.returns-then-is_faultless c).Then-is_faultless in
-    let h = c.before.is_faultless.ensures.1 c.if-is_faultless.true in (sym (reading-accepted h.0), λ z. h)
+returns-then-is_faultless c =     let h = c.is_faultless.ensures.1 c.if-is_faultless.true in (sym (reading-accepted h.0), λ z. h)
 
 pub returns : goal.returns
 returns c =
-    let c = (goal.at.returns c).After-read_sheet in
     let r = c.read_sheet.ensures in
     (r.0, λ z. (accepted-reading _ (ap (λ (m : Mark). m.number) (sym r.0) ∙ z), r.1 z))

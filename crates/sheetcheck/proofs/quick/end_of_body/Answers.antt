@@ -2,18 +2,13 @@
 use Rattle.std.proofs.Common.{arith}
 use Rattle.laws.specs.Tests.{triangle-most}
 use Rattle.sheetcheck.proofs.quick.end_of_body.Goals as goal
-use Rattle.sheetcheck.proofs.quick.end_of_body.Goals.{After-triangle_of, After-triangle_of-in-Upper}
 
 pub end_of_weights-requires : goal.end_of_weights-requires
 end_of_weights-requires c =
-    let c = (goal.at.end_of_weights-requires c).After-triangle_of in
-    let s = c.before.before.before in
-    let h = triangle-most s.args.n s.requires.1 in
+    let h = triangle-most c.args.n c.requires.1 in
     (omega arith, rw c.triangle_of.ensures (omega arith))
 
 pub end_of_weights-requires-in-Upper : goal.end_of_weights-requires-in-Upper
 end_of_weights-requires-in-Upper c =
-    let c = (goal.at.end_of_weights-requires-in-Upper c).After-triangle_of-in-Upper in
-    let s = c.before.before.before in
-    let h = triangle-most s.args.n s.requires.1 in
+    let h = triangle-most c.args.n c.requires.1 in
     (omega arith, rw c.triangle_of-in-Upper.ensures (omega arith))

@@ -8,96 +8,77 @@ use Rattle.rules.specs.Numbers.{count}
 use Rattle.rules.specs.Sheets.{on, stop, factor}
 use Rattle.sheetread.specs.Starts.{none-met, one_more, place-low}
 use Rattle.sheetread.proofs.readers.read_factors.Goals as goal
-use Rattle.sheetread.proofs.readers.read_factors.Goals.{After-count_at-many, After-count_at-n, After-loop-f, After-read_factor-r, After-way_told-1, Else-r-ne0, In-loop-f, Start, Then-r-ne0}
+use Rattle.sheetread.proofs.readers.read_factors.Goals.{After-read_factor-r, In-loop-f}
 
 pub count_at-n-requires : goal.count_at-n-requires
-count_at-n-requires c =
-    let c = (goal.at.count_at-n-requires c).Start in
-    let h = c.requires.0.order in (h.there, (order-ranged h).natural)
+count_at-n-requires c =     let h = c.requires.0.order in (h.there, (order-ranged h).natural)
 
 pub count_at-many-requires : goal.count_at-many-requires
-count_at-many-requires c =
-    let c = (goal.at.count_at-many-requires c).After-count_at-n in
-    let h = c.before.requires.0.count in (h.there, (count-ranged h).natural)
+count_at-many-requires c =     let h = c.requires.0.count in (h.there, (count-ranged h).natural)
 
 pub loop-f-init : goal.loop-f-init
 loop-f-init c =
-    let c = (goal.at.loop-f-init c).After-count_at-many in
-    (
+        (
   omega arith,
-  c.before.count_at-n.ensures,
+  c.count_at-n.ensures,
   c.count_at-many.ensures,
-  c.before.before.requires.1,
+  c.requires.1,
   none-met,
   rw sub-zero,
     )
 
 -- the table has room
-few : (c : In-loop-f) → c.before.loop-f.f < 32
+few : (c : In-loop-f) → c.loop-f.f < 32
 few c =
-    let m = (count-ranged c.before.before.before.before.requires.0.count).most in omega (arith, c.before.loop-f.invariant.2)
+    let m = (count-ranged c.requires.0.count).most in omega (arith, c.loop-f.invariant.2)
 
 pub overflow_cast-starts : goal.overflow_cast-starts
 overflow_cast-starts c =
-    let c = (goal.at.overflow_cast-starts c).In-loop-f in
-    let l = place-low c.before.before.before.before.requires.0 c.before.loop-f.invariant.4 (few c) in omega arith
+    let l = place-low c.requires.0 c.loop-f.invariant.4 (few (goal.at.overflow_cast-starts c).In-loop-f) in omega arith
 
 pub offset_bounds-starts-f : goal.offset_bounds-starts-f
-offset_bounds-starts-f c =
-    let c = (goal.at.offset_bounds-starts-f c).In-loop-f in
-    let l = few c in omega arith
+offset_bounds-starts-f c =     let l = few (goal.at.offset_bounds-starts-f c).In-loop-f in omega arith
 
 pub bounds-starts-f : goal.bounds-starts-f
-bounds-starts-f c =
-    let c = (goal.at.bounds-starts-f c).After-way_told-1 in
-    few c
+bounds-starts-f c =     few (goal.at.bounds-starts-f c).In-loop-f
 
 pub read_factor-r-requires : goal.read_factor-r-requires
 read_factor-r-requires c =
-    let c = (goal.at.read_factor-r-requires c).After-way_told-1 in
-    let o = order-ranged c.before.before.before.before.requires.0.order in
-    rw c.before.loop-f.invariant.1 (o.least, o.most)
+    let o = order-ranged c.requires.0.order in
+    rw c.loop-f.invariant.1 (o.least, o.most)
 
 -- the factor at i, of the sheet's order
 here :
     (c : After-read_factor-r) →
-    let l = c.before.before in
-    let s = l.before.before.before.args.sheet.now in c.read_factor-r.result ≡ factor s (count s 0) l.loop-f.i
-here c = rw c.before.before.loop-f.invariant.1 at c.read_factor-r.ensures
+    let s = c.args.sheet.now in c.read_factor-r.result ≡ factor s (count s 0) c.loop-f.i
+here c = rw c.loop-f.invariant.1 at c.read_factor-r.ensures
 
 -- it is one of those that are left
 among :
-    (c : In-loop-f) → c.before.loop-f.f < count c.before.before.before.before.args.sheet.now 1
-among c = rw c.before.loop-f.invariant.2 at c.loop-f-test.true
+    (c : In-loop-f) → c.loop-f.f < count c.args.sheet.now 1
+among c = rw c.loop-f.invariant.2 at c.loop-f-test.true
 
 pub returns-then-r-ne0 : goal.returns-then-r-ne0
 returns-then-r-ne0 c =
-    let c = (goal.at.returns-then-r-ne0 c).Then-r-ne0 in
-    let r = c.before.before in
-    let l = r.before.before.loop-f in
-    let e = l.invariant.5 ∙ stop-turn _ l.f _ l.i (among r.before) (here r) c.if-r-ne0.true in
+    let l = c.loop-f in
+    let e = l.invariant.5 ∙ stop-turn _ l.f _ l.i (among (goal.at.returns-then-r-ne0 c).In-loop-f) (here (goal.at.returns-then-r-ne0 c).After-read_factor-r) c.if-r-ne0.true in
     (sym e, λ z. absurd (c.if-r-ne0.true z))
 
 pub loop-f-preserved : goal.loop-f-preserved
 loop-f-preserved c =
-    let c = (goal.at.loop-f-preserved c).Else-r-ne0 in
-    let r = c.before.before in
-    let i = r.before in
-    let l = i.before.loop-f in
-    let q = r.read_factor-r.result in
+    let l = c.loop-f in
+    let q = c.read_factor-r.result in
     let p : q ≡ on q.place = ap (λ (k : ℕ). stop k q.place) c.if-r-ne0.false in (
       omega arith,
       l.invariant.1,
       l.invariant.2,
       length-set l.starts l.f l.i ∙ l.invariant.3,
-      one_more l.f (rw l.invariant.3 (few i)) l.invariant.4 (sym (here r) ∙ p),
-      l.invariant.5 ∙ on-turn _ l.f _ l.i (among i) (here r) c.if-r-ne0.false,
+      one_more l.f (rw l.invariant.3 (few (goal.at.loop-f-preserved c).In-loop-f)) l.invariant.4 (sym (here (goal.at.loop-f-preserved c).After-read_factor-r) ∙ p),
+      l.invariant.5 ∙ on-turn _ l.f _ l.i (among (goal.at.loop-f-preserved c).In-loop-f) (here (goal.at.loop-f-preserved c).After-read_factor-r) c.if-r-ne0.false,
     )
 
 pub returns : goal.returns
 returns c =
-    let c = (goal.at.returns c).After-loop-f in
-    let l = c.before.loop-f in
-    let s = c.before.before.before.before in
-    let e : l.f ≡ count s.args.sheet.now 1 = omega (arith, l.invariant.2) in
+    let l = c.loop-f in
+    let e : l.f ≡ count c.args.sheet.now 1 = omega (arith, l.invariant.2) in
     (sym (l.invariant.5 ∙ times_none _ l.f _ l.i (omega (arith, e))), λ z. rw e at l.invariant.4.starts)

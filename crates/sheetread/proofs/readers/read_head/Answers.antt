@@ -2,16 +2,11 @@
 use Rattle.laws.specs.Readers.{stops, goes}
 use Rattle.rules.specs.Sheets.{head}
 use Rattle.sheetread.proofs.readers.read_head.Goals as goal
-use Rattle.sheetread.proofs.readers.read_head.Goals.{After-read_one, Then-r-ne0}
 
 pub returns-then-r-ne0 : goal.returns-then-r-ne0
 unfolding head
-returns-then-r-ne0 c =
-    let c = (goal.at.returns-then-r-ne0 c).Then-r-ne0 in
-    stops _ c.before.before.read_one-r.ensures c.if-r-ne0.true
+returns-then-r-ne0 c =     stops _ c.read_one-r.ensures c.if-r-ne0.true
 
 pub returns : goal.returns
 unfolding head
-returns c =
-    let c = (goal.at.returns c).After-read_one in
-    goes _ c.before.before.before.read_one-r.ensures c.before.if-r-ne0.false c.read_one.ensures
+returns c =     goes _ c.read_one-r.ensures c.if-r-ne0.false c.read_one.ensures

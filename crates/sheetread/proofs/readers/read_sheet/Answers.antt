@@ -6,7 +6,7 @@ use Rattle.rules.specs.Numbers.{count}
 use Rattle.rules.specs.Sheets.{on, ◌then◌, times, factor, head, reading}
 use Rattle.rules.specs.declared.Mark.{Mark}
 use Rattle.sheetread.proofs.readers.read_sheet.Goals as goal
-use Rattle.sheetread.proofs.readers.read_sheet.Goals.{After-read_end, After-read_factors-arg-1, After-read_factors-r, Then-h-ne0, Then-r-ne0}
+use Rattle.sheetread.proofs.readers.read_sheet.Goals.{After-read_factors-r}
 
 -- The head; if it has no fault the factors; then the end. Assumes nothing.
 headed-by : {s : List ℤ} {r : Mark} → r ≡ head s → r.number ≡ 0 → Headed s
@@ -15,36 +15,28 @@ headed-by {s} e h = headed s (ap (λ (x : Mark). x.number) (sym e) ∙ h)
 pub returns-then-h-ne0 : goal.returns-then-h-ne0
 unfolding reading
 returns-then-h-ne0 c =
-    let c = (goal.at.returns-then-h-ne0 c).Then-h-ne0 in
-    let e = c.before.before.read_head-h.ensures in
+    let e = c.read_head-h.ensures in
     (stops _ (stops _ e c.if-h-ne0.true) c.if-h-ne0.true, λ z. absurd (c.if-h-ne0.true z))
 
 pub read_factors-r-requires : goal.read_factors-r-requires
 read_factors-r-requires c =
-    let c = (goal.at.read_factors-r-requires c).After-read_factors-arg-1 in
-    let d = c.before in
-    (headed-by d.before.before.read_head-h.ensures d.if-h-ne0.false, d.before.before.before.requires)
+    (headed-by c.read_head-h.ensures c.if-h-ne0.false, c.requires)
 
 -- the head ends at place 2, where the factors begin
 read :
-    (c : After-read_factors-r) → c.read_factors-r.result ≡ up_to_end c.before.before.before.before.before.args.sheet.now
+    (c : After-read_factors-r) → c.read_factors-r.result ≡ up_to_end c.args.sheet.now
 read c =
-    let d = c.before.before in
-    let s = d.before.before.before.args.sheet.now in
+    let s = c.args.sheet.now in
     let k = times (count s 1) (factor s (count s 0)) in
-    let e = head-next (headed-by d.before.before.read_head-h.ensures d.if-h-ne0.false) in
+    let e = head-next (headed-by c.read_head-h.ensures c.if-h-ne0.false) in
     c.read_factors-r.ensures.0 ∙ sym (ap (λ (m : Mark). m then k) e ∙ then-on (on 2) k refl)
 
 pub returns-then-r-ne0 : goal.returns-then-r-ne0
 unfolding reading
 returns-then-r-ne0 c =
-    let c = (goal.at.returns-then-r-ne0 c).Then-r-ne0 in
-    (stops _ (read c.before.before) c.if-r-ne0.true, λ z. absurd (c.if-r-ne0.true z))
+    (stops _ (read (goal.at.returns-then-r-ne0 c).After-read_factors-r) c.if-r-ne0.true, λ z. absurd (c.if-r-ne0.true z))
 
 pub returns : goal.returns
 unfolding reading
 returns c =
-    let c = (goal.at.returns c).After-read_end in
-    let t = c.before in
-    let f = t.before.before in
-    (goes _ (read f) t.if-r-ne0.false c.read_end.ensures, λ z. f.read_factors-r.ensures.1 t.if-r-ne0.false)
+    (goes _ (read (goal.at.returns c).After-read_factors-r) c.if-r-ne0.false c.read_end.ensures, λ z. c.read_factors-r.ensures.1 c.if-r-ne0.false)

@@ -5,26 +5,19 @@ use Rattle.joint.specs.Elements.{sign_at}
 use Rattle.joint.specs.Triangles.{asks-run, run_row}
 use Rattle.whole.specs.Machine.{back}
 use Rattle.trianglerows.proofs.applied.apply_lower_row.Goals as goal
-use Rattle.trianglerows.proofs.applied.apply_lower_row.Goals.{After-apply_lower_elements, After-apply_lower_elements-arg-1, After-sign_at-d}
+use Rattle.trianglerows.proofs.applied.apply_lower_row.Goals.{After-sign_at-d, Else-n-eq4}
 
 sign : (c : After-sign_at-d) →
-    let s = c.before.before in
-    to_z w32 (of_z w32 c.sign_at-d.result) ≡ sign_at s.args.col.now s.args.fa s.args.i
+    to_z w32 (of_z w32 c.sign_at-d.result) ≡ sign_at c.args.col.now c.args.fa c.args.i
 sign c = back w32 _ c.sign_at-d.type_inv ∙ c.sign_at-d.ensures
 
 pub apply_lower_elements-requires : goal.apply_lower_elements-requires
 apply_lower_elements-requires c =
-    let c = (goal.at.apply_lower_elements-requires c).After-apply_lower_elements-arg-1 in
-    let a = c.before.before in
-    let d = a.before.before.before in
-    let s = d.before.before in
-    (asks-run s.requires.0 refl (sign d) a.lower_sums.ensures, s.requires.1)
+    let s = c.before in
+    (asks-run s.requires.0 refl (sign (goal.at.apply_lower_elements-requires c).Else-n-eq4) c.lower_sums.ensures, s.requires.1)
 
 pub returns : goal.returns
 returns c =
-    let c = (goal.at.returns c).After-apply_lower_elements in
-    let a = c.before.before.before in
-    let d = a.before.before.before in
-    let s = d.before.before in
-    run_row s.requires.0 refl (sign d) a.lower_sums.ensures (rule_by s.args.down s.args.even)
+    let s = c.before in
+    run_row s.requires.0 refl (sign (goal.at.returns c).Else-n-eq4) c.lower_sums.ensures (rule_by s.args.down s.args.even)
     c.apply_lower_elements.ensures

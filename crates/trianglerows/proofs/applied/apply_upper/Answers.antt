@@ -1,6 +1,5 @@
 -- The block is as the turns so far leave it, all of it is in bound, and the entries of the element in turn start at p.
 use Rattle.std.proofs.Common.{◌≡◌, sym, ap, ◌∙◌, ℕ, ◌+◌, ◌-◌, ◌<◌, arith, ℤ, length, to_z-of_z, w32, w64, to_z, of_z}
-use borrow.Author.Tests.{not-true, not-false}
 use Rattle.factor.specs.InPlace.{in_place, length-in-place}
 use Rattle.factor.specs.Layouts.{row_of}
 use Rattle.factor.specs.Rounding.{rule_by}
@@ -13,68 +12,55 @@ use Rattle.rules.specs.Numbers.{bound, at}
 use Rattle.whole.specs.Diff.{Within}
 use Rattle.whole.specs.Machine.{fits, reads, back}
 use Rattle.trianglerows.proofs.applied.apply_upper.Goals as goal
-use Rattle.trianglerows.proofs.applied.apply_upper.Goals.{After-applied_whole-arg-1, After-applied_whole-z, After-before_upper, After-loop-j, After-sign_at, After-upper_total-s, Else-not-is_within, In-loop-j, Start, Then-not-is_within}
+use Rattle.trianglerows.proofs.applied.apply_upper.Goals.{After-applied_whole-z, After-before_upper, After-sign_at, After-upper_total-s, Else-not-is_within, In-loop-j, Start}
 
 -- what the run was lent
 abbrev S : In-loop-j → Start
 S c = c.before.before.before
 
 first-at : (c : After-before_upper) →
-    c.before.args.f.entries + c.before_upper.result ≡ (row_of c.before.args.f c.before.args.from).at
+    c.args.f.entries + c.before_upper.result ≡ (row_of c.args.f c.args.from).at
 first-at c =
-    let s = c.before in
-    ap (λ (z : ℕ). s.args.f.entries + z) (c.before_upper.ensures ∙ rw s.requires.2) ∙ sym (upper-at s.args.f s.args.from s.requires.1)
+    ap (λ (z : ℕ). c.args.f.entries + z) (c.before_upper.ensures ∙ rw c.requires.2) ∙ sym (upper-at c.args.f c.args.from c.requires.1)
 
 pub overflow_add-p : goal.overflow_add-p
 overflow_add-p c =
-    let c = (goal.at.overflow_add-p c).After-before_upper in
-    let s = c.before in
-    let e = first-at c in
-    let h = (s.requires.0.0.row s.args.from (let a = s.requires.3 in let b = s.requires.4 in omega arith)).room in
+    let e = first-at (goal.at.overflow_add-p c).After-before_upper in
+    let h = (c.requires.0.0.row c.args.from (let a = c.requires.3 in let b = c.requires.4 in omega arith)).room in
     omega arith
 
 pub loop-j-init : goal.loop-j-init
 unfolding in_place
 loop-j-init c =
-    let c = (goal.at.loop-j-init c).After-before_upper in
-    let s = c.before in
-    let z : s.args.from - s.args.from ≡ 0 = omega arith in
-    (omega arith, (let a = s.requires.3 in omega arith), rw z, s.requires.0.4, first-at c)
+    let z : c.args.from - c.args.from ≡ 0 = omega arith in
+    (omega arith, (let a = c.requires.3 in omega arith), rw z, c.requires.0.4, first-at (goal.at.loop-j-init c).After-before_upper)
 
 -- the element in turn is one of the row
-inside : (c : In-loop-j) → c.before.loop-j.j < (S c).args.f.order
+inside : (c : In-loop-j) → c.loop-j.j < (S c).args.f.order
 inside c = let h = c.loop-j-test.true in let l = (S c).requires.4 in omega arith
-
--- its place
-room : (c : In-loop-j) → (S c).args.k + c.before.loop-j.j < 256
-room c = let h = inside c in let k = (S c).requires.0.3 in omega arith
 
 -- its sum, its sign and its number
 total : (c : After-upper_total-s) →
-    let i = c.before in
-    to_z w64 (of_z w64 c.upper_total-s.result) ≡ total_of (S i).args.row.now (S i).args.f i.before.loop-j.j (S i).args.v.now
+    to_z w64 (of_z w64 c.upper_total-s.result) ≡ total_of (S c.before).args.row.now (S c.before).args.f c.loop-j.j (S c.before).args.v.now
 total c = back w64 _ c.upper_total-s.type_inv ∙ c.upper_total-s.ensures
 
 sign : (c : After-sign_at) →
-    let i = c.before.before in
-    to_z w32 (of_z w32 c.sign_at.result) ≡ sign_at (S i).args.row.now (S i).args.f i.before.loop-j.j
+    to_z w32 (of_z w32 c.sign_at.result) ≡ sign_at (S c.before.before).args.row.now (S c.before.before).args.f c.loop-j.j
 sign c = back w32 _ c.sign_at.type_inv ∙ c.sign_at.ensures
 
 number : (c : In-loop-j) →
-    to_z w32 (of_z w32 (at c.before.loop-j.x ((S c).args.k + c.before.loop-j.j)))
-    ≡ at c.before.loop-j.x ((S c).args.k + c.before.loop-j.j)
-number c = reads w32 (c.before.loop-j.invariant.3.small _) tt
+    to_z w32 (of_z w32 (at c.loop-j.x ((S c).args.k + c.loop-j.j)))
+    ≡ at c.loop-j.x ((S c).args.k + c.loop-j.j)
+number c = reads w32 (c.loop-j.invariant.3.small _) tt
 
 pub applied_whole-z-requires : goal.applied_whole-z-requires
 applied_whole-z-requires c =
-    let c = (goal.at.applied_whole-z-requires c).After-applied_whole-arg-1 in
-    let i = c.before.before.before in
-    let s = S i in
-    let l = i.before.loop-j in
-    rw (total c.before.before, sign c.before, number i, to_z-of_z s.fits.d) (
-      rest-element-small s.pre.0.0 l.j (inside i) s.pre.0.2,
+    let s = S (goal.at.applied_whole-z-requires c).In-loop-j in
+    let l = c.loop-j in
+    rw (total (goal.at.applied_whole-z-requires c).After-upper_total-s, sign (goal.at.applied_whole-z-requires c).After-sign_at, number (goal.at.applied_whole-z-requires c).In-loop-j, to_z-of_z s.fits.d) (
+      rest-element-small s.pre.0.0 l.j (inside (goal.at.applied_whole-z-requires c).In-loop-j) s.pre.0.2,
       s.pre.0.1,
-      s.pre.0.0.sign l.j (inside i),
+      s.pre.0.0.sign l.j (inside (goal.at.applied_whole-z-requires c).In-loop-j),
       l.invariant.3.small _,
     )
 
@@ -82,17 +68,16 @@ applied_whole-z-requires c =
 abbrev F : In-loop-j → ℤ
 F c =
     let a = (S c).args in
-    applied_in (rule_by a.down a.even) a.row.now a.f (to_z w32 (of_z w32 a.d)) a.v.now a.k c.before.loop-j.x
-    (a.k + c.before.loop-j.j)
+    applied_in (rule_by a.down a.even) a.row.now a.f (to_z w32 (of_z w32 a.d)) a.v.now a.k c.loop-j.x
+    (a.k + c.loop-j.j)
 
 value : (c : After-applied_whole-z) →
-    to_z w64 (of_z w64 c.applied_whole-z.result) ≡ F c.before.before.before.before
+    to_z w64 (of_z w64 c.applied_whole-z.result) ≡ F c.before.before.before
 value c =
-    let i = c.before.before.before.before in
-    let a = (S i).args in
-    let l = i.before.loop-j in
+    let a = (S c.before.before.before).args in
+    let l = c.loop-j in
     back w64 _ c.applied_whole-z.type_inv ∙ c.applied_whole-z.ensures
-    ∙ rw (total c.before.before.before, sign c.before.before, number i)
+    ∙ rw (total c.before.before, sign c.before, number c.before.before.before)
     (applied-from (rule_by a.down a.even) a.row.now a.f l.j (to_z w32 (of_z w32 a.d)) a.v.now
     (at l.x (a.k + l.j))
     ∙ sym (applied-in (rule_by a.down a.even) a.row.now a.f (to_z w32 (of_z w32 a.d)) a.v.now a.k l.j
@@ -100,45 +85,39 @@ value c =
 
 pub returns-then-not-is_within : goal.returns-then-not-is_within
 returns-then-not-is_within c =
-    let c = (goal.at.returns-then-not-is_within c).Then-not-is_within in
-    let i = c.before.before.before.before.before.before in
-    let s = S i in
-    let l = i.before.loop-j in
+    let s = S (goal.at.returns-then-not-is_within c).In-loop-j in
+    let l = c.loop-j in
     record {
       through = λ e. apart (sym e);
       stopped = λ e.
           rw (to_z-of_z s.fits.d) at
-          (run-stops _ (λ u. s.args.k + u) s.args.from s.args.to l.j s.args.x.now l.inv.0 i.loop-j-test.taken l.inv.2
-          (test-no bound (value c.before.before) c.before.is_within.ensures (not-true _ c.if-not-is_within.true)));
+          (run-stops _ (λ u. s.args.k + u) s.args.from s.args.to l.j s.args.x.now l.inv.0 c.loop-j-test.taken l.inv.2
+          (test-no bound (value (goal.at.returns-then-not-is_within c).After-applied_whole-z) c.is_within.ensures (c.if-not-is_within.true)));
       keeps = ap length l.inv.2 ∙ length-in-place _ _ (l.j - s.args.from) _;
     }
 
-held : (c : Else-not-is_within) → Within bound (F (c.before.before.before.before.before.before))
-held c = test-yes bound (value c.before.before) c.before.is_within.ensures (not-false _ c.if-not-is_within.false)
+held : (c : Else-not-is_within) → Within bound (F (c.before.before.before.before.before))
+held c = test-yes bound (value c.before.before) c.is_within.ensures (c.if-not-is_within.false)
 
 pub loop-j-preserved : goal.loop-j-preserved
 loop-j-preserved c =
-    let c = (goal.at.loop-j-preserved c).Else-not-is_within in
-    let i = c.before.before.before.before.before.before in
-    let s = S i in
-    let l = i.before.loop-j in
-    let z = reads w32 (held c) tt in (
+    let s = S (goal.at.loop-j-preserved c).In-loop-j in
+    let l = c.loop-j in
+    let z = reads w32 (held (goal.at.loop-j-preserved c).Else-not-is_within) tt in (
       (let a = l.inv.0 in omega arith),
-      (let h = i.loop-j-test.taken in omega arith),
-      rw (value c.before.before, z) (run-next _ (λ u. s.args.k + u) s.args.from l.j s.args.x.now l.inv.0
+      (let h = c.loop-j-test.taken in omega arith),
+      rw (value (goal.at.loop-j-preserved c).After-applied_whole-z, z) (run-next _ (λ u. s.args.k + u) s.args.from l.j s.args.x.now l.inv.0
           l.inv.2),
-      rw (value c.before.before, z) (bounded-set l.x (s.args.k + l.j) l.inv.3 (held c)),
+      rw (value (goal.at.loop-j-preserved c).After-applied_whole-z, z) (bounded-set l.x (s.args.k + l.j) l.inv.3 (held (goal.at.loop-j-preserved c).Else-not-is_within)),
       rw s.pre.2 (ap (λ (z : ℕ). z + (s.args.f.order - 1 - l.j)) l.inv.4 ∙ upper-next s.args.f l.j s.pre.1),
     )
 
 pub returns : goal.returns
 returns c =
-    let c = (goal.at.returns c).After-loop-j in
-    let s = c.before.before.before in
-    let l = c.before.loop-j in
-    let e : l.j ≡ s.args.to = let a = l.invariant.1 in omega arith in
+    let l = c.loop-j in
+    let e : l.j ≡ c.args.to = let a = l.invariant.1 in omega arith in
     record {
-      through = λ t. (rw (to_z-of_z s.ranges.d, e) at l.invariant.2, l.invariant.3);
+      through = λ t. (rw (to_z-of_z c.ranges.d, e) at l.invariant.2, l.invariant.3);
       stopped = λ t. apart t;
-      keeps = ap length l.invariant.2 ∙ length-in-place _ _ (l.j - s.args.from) _;
+      keeps = ap length l.invariant.2 ∙ length-in-place _ _ (l.j - c.args.from) _;
     }

@@ -6,20 +6,16 @@ use Rattle.joint.specs.RowsInPlace.{run-all}
 use Rattle.joint.specs.Triangles.{asks-run, run_row}
 use Rattle.whole.specs.Machine.{back}
 use Rattle.trianglerows.proofs.applied.apply_upper_four.Goals as goal
-use Rattle.trianglerows.proofs.applied.apply_upper_four.Goals.{After-apply_upper, After-apply_upper-2, After-apply_upper-arg-1, After-apply_upper-arg-2-1, After-sign_at-d}
+use Rattle.trianglerows.proofs.applied.apply_upper_four.Goals.{After-sign_at-d, Start}
 
 sign : (c : After-sign_at-d) →
-    let s = c.before in
-    to_z w32 (of_z w32 c.sign_at-d.result) ≡ sign_at s.args.col.now s.args.fa s.args.i
+    to_z w32 (of_z w32 c.sign_at-d.result) ≡ sign_at c.args.col.now c.args.fa c.args.i
 sign c = back w32 _ c.sign_at-d.type_inv ∙ c.sign_at-d.ensures
 
 pub apply_upper-requires : goal.apply_upper-requires
 apply_upper-requires c =
-    let c = (goal.at.apply_upper-requires c).After-apply_upper-arg-1 in
-    let a = c.before.before.before in
-    let d = a.before.before.before in
-    let s = d.before in (
-      asks-run s.requires.0 (sym s.requires.2) (sign d) a.upper_sums.ensures,
+    let s = c.before in (
+      asks-run s.requires.0 (sym s.requires.2) (sign (goal.at.apply_upper-requires c).Start) c.upper_sums.ensures,
       s.requires.1,
       sym s.requires.2,
       omega arith,
@@ -28,22 +24,15 @@ apply_upper-requires c =
 
 pub returns-then-even : goal.returns-then-even
 returns-then-even c =
-    let c = (goal.at.returns-then-even c).After-apply_upper in
-    let t = c.before.before.before in
-    let a = t.before in
-    let d = a.before.before.before in
-    let s = d.before in
-    rw t.if-even.true
-    (run_row s.requires.0 (sym s.requires.2) (sign d) a.upper_sums.ensures (rule_by s.args.down true)
+    let s = c.before in
+    rw c.if-even.true
+    (run_row s.requires.0 (sym s.requires.2) (sign (goal.at.returns-then-even c).Start) c.upper_sums.ensures (rule_by s.args.down true)
     (run-all _ 4 s.requires.2 c.apply_upper.ensures))
 
 pub apply_upper-requires-2 : goal.apply_upper-requires-2
 apply_upper-requires-2 c =
-    let c = (goal.at.apply_upper-requires-2 c).After-apply_upper-arg-2-1 in
-    let a = c.before.before.before in
-    let d = a.before.before.before in
-    let s = d.before in (
-      asks-run s.requires.0 (sym s.requires.2) (sign d) a.upper_sums.ensures,
+    let s = c.before in (
+      asks-run s.requires.0 (sym s.requires.2) (sign (goal.at.apply_upper-requires-2 c).Start) c.upper_sums.ensures,
       s.requires.1,
       sym s.requires.2,
       omega arith,
@@ -52,11 +41,7 @@ apply_upper-requires-2 c =
 
 pub returns : goal.returns
 returns c =
-    let c = (goal.at.returns c).After-apply_upper-2 in
-    let t = c.before.before.before in
-    let a = t.before in
-    let d = a.before.before.before in
-    let s = d.before in
-    rw t.if-even.false
-    (run_row s.requires.0 (sym s.requires.2) (sign d) a.upper_sums.ensures (rule_by s.args.down false)
+    let s = c.before in
+    rw c.if-even.false
+    (run_row s.requires.0 (sym s.requires.2) (sign (goal.at.returns c).Start) c.upper_sums.ensures (rule_by s.args.down false)
     (run-all _ 4 s.requires.2 c.apply_upper-2.ensures))

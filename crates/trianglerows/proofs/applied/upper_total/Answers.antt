@@ -8,7 +8,7 @@ use Rattle.rules.specs.Numbers.{at}
 use Rattle.whole.specs.Diff.{Within}
 use Rattle.whole.specs.Machine.{reads, back, within-le}
 use Rattle.trianglerows.proofs.applied.upper_total.Goals as goal
-use Rattle.trianglerows.proofs.applied.upper_total.Goals.{After-sign_at, After-wide_sum, After-with_diagonal, After-with_diagonal-arg-1, Start}
+use Rattle.trianglerows.proofs.applied.upper_total.Goals.{After-sign_at, After-wide_sum, Start}
 
 -- One run of entries is all of them (`upper-entries`).
 -- the entries of the row, and the sums that they meet
@@ -25,23 +25,20 @@ many : (s : Start) → s.args.n - 1 - s.args.j ≡ s.args.f.order - suc s.args.j
 many s = let e = s.requires.2 in omega arith
 
 pub wide_sum-requires : goal.wide_sum-requires
-wide_sum-requires c =
-    let c = (goal.at.wide_sum-requires c).Start in
-    rw (many c) (run c)
+wide_sum-requires c =     rw (many (goal.at.wide_sum-requires c).Start) (run (goal.at.wide_sum-requires c).Start)
 
 sign : (c : After-sign_at) →
-    to_z w32 (of_z w32 c.sign_at.result) ≡ sign_at c.before.before.args.row.now c.before.before.args.f
-    c.before.before.args.j
+    to_z w32 (of_z w32 c.sign_at.result) ≡ sign_at c.args.row.now c.args.f
+    c.args.j
 sign c = back w32 _ c.sign_at.type_inv ∙ c.sign_at.ensures
 
 -- the entries' part
 entries : (c : After-wide_sum) →
-    to_z w64 (of_z w64 c.wide_sum.result) ≡ entries_sum c.before.args.row.now (row_of c.before.args.f c.before.args.j)
-    c.before.args.j (at c.before.args.v.now)
+    to_z w64 (of_z w64 c.wide_sum.result) ≡ entries_sum c.args.row.now (row_of c.args.f c.args.j)
+    c.args.j (at c.args.v.now)
 entries c =
-    let s = c.before in
     back w64 _ c.wide_sum.type_inv ∙ c.wide_sum.ensures
-    ∙ upper-entries s.args.f s.args.j s.requires.1 s.requires.3 (many s) s.args.row.now s.args.v.now
+    ∙ upper-entries c.args.f c.args.j c.requires.1 c.requires.3 (many c.before) c.args.row.now c.args.v.now
 
 small : (c : After-wide_sum) → Within most_joint (to_z w64 (of_z w64 c.wide_sum.result))
 small c =
@@ -50,14 +47,10 @@ small c =
 
 pub with_diagonal-requires : goal.with_diagonal-requires
 with_diagonal-requires c =
-    let c = (goal.at.with_diagonal-requires c).After-with_diagonal-arg-1 in
-    let s = c.before.before.before in
-    let v = s.requires.0.2.small s.args.j in
-    rw (sign c.before, reads w64 v tt) (small c.before.before, s.requires.0.0.sign s.args.j s.requires.0.1, v)
+    let v = c.requires.0.2.small c.args.j in
+    rw (sign (goal.at.with_diagonal-requires c).After-sign_at, reads w64 v tt) (small (goal.at.with_diagonal-requires c).After-wide_sum, c.requires.0.0.sign c.args.j c.requires.0.1, v)
 
 pub returns : goal.returns
 returns c =
-    let c = (goal.at.returns c).After-with_diagonal in
-    let s = c.before.before.before.before in
     back w64 _ c.with_diagonal.type_inv ∙ c.with_diagonal.ensures
-    ∙ rw (sign c.before.before, entries c.before.before.before, reads w64 (s.requires.0.2.small s.args.j) tt)
+    ∙ rw (sign (goal.at.returns c).After-sign_at, entries (goal.at.returns c).After-wide_sum, reads w64 (c.requires.0.2.small c.args.j) tt)

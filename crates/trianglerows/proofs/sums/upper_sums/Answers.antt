@@ -6,7 +6,7 @@ use Rattle.joint.specs.RowsInPlace.{row_room}
 use Rattle.joint.specs.Triangles.{upper-at, upper-side, upper-rest, with-own}
 use Rattle.whole.specs.Machine.{back}
 use Rattle.trianglerows.proofs.sums.upper_sums.Goals as goal
-use Rattle.trianglerows.proofs.sums.upper_sums.Goals.{After-before_upper, After-diagonal_of, After-side_sums_with, After-side_sums_with-arg-1, After-sign_at, Start}
+use Rattle.trianglerows.proofs.sums.upper_sums.Goals.{After-before_upper, After-diagonal_of, After-sign_at, Start}
 
 -- The entries of the row are as the sums ask (`upper-side`). With the row's own numbers they make its sums (`with-own`).
 -- the row lies in the block
@@ -15,50 +15,37 @@ room s = row_room s.requires.0.0.order s.requires.0.2 s.requires.0.1
 
 -- where the entries of the row start
 place : (c : After-before_upper) →
-    let s = c.before in
-    s.args.f.entries + c.before_upper.result ≡ (row_of s.args.f s.args.i).at
-place c = let s = c.before in rw (c.before_upper.ensures, upper-at s.args.f s.args.i s.requires.1)
+    c.args.f.entries + c.before_upper.result ≡ (row_of c.args.f c.args.i).at
+place c = rw (c.before_upper.ensures, upper-at c.args.f c.args.i c.requires.1)
 
 pub overflow_add-entries : goal.overflow_add-entries
 overflow_add-entries c =
-    let c = (goal.at.overflow_add-entries c).After-before_upper in
-    let s = c.before in
-    let h = (s.requires.0.0.row s.args.i s.requires.0.1).room in
-    omega (arith, place c)
+    let h = (c.requires.0.0.row c.args.i c.requires.0.1).room in
+    omega (arith, place (goal.at.overflow_add-entries c).After-before_upper)
 
 sign : (c : After-sign_at) →
-    let s = c.before.before in
-    to_z w32 (of_z w32 c.sign_at.result) ≡ sign_at s.args.col.now s.args.f s.args.i
+    to_z w32 (of_z w32 c.sign_at.result) ≡ sign_at c.args.col.now c.args.f c.args.i
 sign c = back w32 _ c.sign_at.type_inv ∙ c.sign_at.ensures
 
 diagonal : (c : After-diagonal_of) →
-    let s = c.before.before.before in
-    to_z w32 (of_z w32 c.diagonal_of.result) ≡ diagonal_of (sign_at s.args.col.now s.args.f s.args.i)
+    to_z w32 (of_z w32 c.diagonal_of.result) ≡ diagonal_of (sign_at c.args.col.now c.args.f c.args.i)
 diagonal c = back w32 _ c.diagonal_of.type_inv ∙ c.diagonal_of.ensures ∙ ap diagonal_of (sign c.before)
 
 pub side_sums_with-requires : goal.side_sums_with-requires
 side_sums_with-requires c =
-    let c = (goal.at.side_sums_with-requires c).After-side_sums_with-arg-1 in
-    let o = c.before in
-    let b = o.before.before in
-    let s = b.before in
-    let h = s.requires.0 in
-    rw (diagonal o) (
-      upper-side h.0 h.1 h.3 h.2 (place b) s.requires.1 refl,
+    let h = c.requires.0 in
+    rw (diagonal (goal.at.side_sums_with-requires c).After-diagonal_of) (
+      upper-side h.0 h.1 h.3 h.2 (place (goal.at.side_sums_with-requires c).After-before_upper) c.requires.1 refl,
       h.4,
       (let l = h.1 in let e = h.0.order in omega arith),
-      room s,
-      diagonal-small (h.0.sign s.args.i h.1),
+      room (goal.at.side_sums_with-requires c).Start,
+      diagonal-small (h.0.sign c.args.i h.1),
     )
 
 pub returns : goal.returns
 returns c =
-    let c = (goal.at.returns c).After-side_sums_with in
-    let o = c.before.before in
-    let b = o.before.before in
-    let s = b.before in
-    let h = s.requires.0 in
+    let h = c.requires.0 in
     c.side_sums_with.ensures
-    ∙ rw (diagonal o)
-    (with-own h.0 h.1 h.3 h.2 (place b) (s.args.f.order - 1 - s.args.i) ((s.args.i + 1) * s.args.n)
-    (upper-rest h.0 h.1 h.3 h.2 (place b) s.requires.1 refl))
+    ∙ rw (diagonal (goal.at.returns c).After-diagonal_of)
+    (with-own h.0 h.1 h.3 h.2 (place (goal.at.returns c).After-before_upper) (c.args.f.order - 1 - c.args.i) ((c.args.i + 1) * c.args.n)
+    (upper-rest h.0 h.1 h.3 h.2 (place (goal.at.returns c).After-before_upper) c.requires.1 refl))

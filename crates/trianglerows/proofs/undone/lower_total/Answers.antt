@@ -10,7 +10,7 @@ use Rattle.whole.specs.Diff.{lia, Within}
 use Rattle.whole.specs.Machine.{reads, back, within-le, within-*, within-pos, sign-within}
 use Rattle.whole.specs.Stated.{sum}
 use Rattle.trianglerows.proofs.undone.lower_total.Goals as goal
-use Rattle.trianglerows.proofs.undone.lower_total.Goals.{After-sign_at, After-sum_ending, After-with_diagonal-own, Start}
+use Rattle.trianglerows.proofs.undone.lower_total.Goals.{After-sign_at, After-with_diagonal-own, Start}
 
 -- One run of entries is all of them (`lower-entries`).
 -- the entries of the row, and the sums that they meet
@@ -21,18 +21,17 @@ run s =
     rw (← s.requires.2, lower-left f j s.requires.1) at (left-wide (band-at s.requires.0.0 j s.requires.0.1) s.requires.0.2)
 
 sign : (c : After-sign_at) →
-    to_z w32 (of_z w32 c.sign_at.result) ≡ sign_at c.before.args.row.now c.before.args.f c.before.args.j
+    to_z w32 (of_z w32 c.sign_at.result) ≡ sign_at c.args.row.now c.args.f c.args.j
 sign c = back w32 _ c.sign_at.type_inv ∙ c.sign_at.ensures
 
 -- the own term
 abbrev O : Start → ℤ
 O s = diagonal_of (sign_at s.args.row.now s.args.f s.args.j) *ℤ at s.args.v.now s.args.j
 
-own_is : (c : After-with_diagonal-own) → to_z w64 (of_z w64 c.with_diagonal-own.result) ≡ O c.before.before.before
+own_is : (c : After-with_diagonal-own) → to_z w64 (of_z w64 c.with_diagonal-own.result) ≡ O c.before.before
 own_is c =
-    let s = c.before.before.before in
     back w64 _ c.with_diagonal-own.type_inv ∙ c.with_diagonal-own.ensures
-    ∙ rw (sign c.before.before, reads w64 (s.requires.0.2.small s.args.j) tt) (none _)
+    ∙ rw (sign c.before, reads w64 (c.requires.0.2.small c.args.j) tt) (none _)
   where
     none : (z : ℤ) → pos 0 +ℤ z ≡ z
     none z = simp lia (omega arith)
@@ -44,9 +43,7 @@ own-small s =
 
 pub sum_ending-requires : goal.sum_ending-requires
 sum_ending-requires c =
-    let c = (goal.at.sum_ending-requires c).After-with_diagonal-own in
-    let s = c.before.before.before in
-    (run s, rw (own_is c) (own-small s), rw (to_z-of_z s.ranges.last) s.requires.3)
+    (run (goal.at.sum_ending-requires c).Start, rw (own_is (goal.at.sum_ending-requires c).After-with_diagonal-own) (own-small (goal.at.sum_ending-requires c).Start), rw (to_z-of_z c.ranges.last) c.requires.3)
 
 entries : (s : Start) →
     sum s.args.j (λ t. at s.args.row.now (s.args.p + t) *ℤ at s.args.v.now (0 + t)) ≡ entries_sum s.args.row.now (row_of s.args.f s.args.j) s.args.j (at s.args.v.now)
@@ -57,7 +54,5 @@ either_way o a = simp lia (omega arith)
 
 pub returns : goal.returns
 returns c =
-    let c = (goal.at.returns c).After-sum_ending in
-    let s = c.before.before.before.before in
     back w64 _ c.sum_ending.type_inv ∙ c.sum_ending.ensures
-    ∙ rw (own_is c.before, entries s) (either_way (O s) _)
+    ∙ rw (own_is (goal.at.returns c).After-with_diagonal-own, entries (goal.at.returns c).Start) (either_way (O (goal.at.returns c).Start) _)

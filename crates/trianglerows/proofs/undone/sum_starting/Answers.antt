@@ -8,92 +8,81 @@ use Rattle.whole.specs.Machine.{fits, reads, back, within-+, within-*}
 use Rattle.whole.specs.Stated.{sum}
 use Rattle.whole.specs.Sum.{sum-cong}
 use Rattle.trianglerows.proofs.undone.sum_starting.Goals as goal
-use Rattle.trianglerows.proofs.undone.sum_starting.Goals.{After-wide_sum, After-with_sum, After-with_sum-arg-1, Else-m-eq0, Start}
+use Rattle.trianglerows.proofs.undone.sum_starting.Goals.{After-wide_sum, Else-m-eq0, Start}
 
 -- all but the first
-fewer : (c : Else-m-eq0) → let a = c.before.args in Wide a.a.now (a.p + 1) a.v.now (a.k + 1) (a.m - 1)
-fewer c = wide-after c.if-m-eq0.false c.before.requires.0
+fewer : (c : Else-m-eq0) → let a = c.args in Wide a.a.now (a.p + 1) a.v.now (a.k + 1) (a.m - 1)
+fewer c = wide-after c.if-m-eq0.false c.requires.0
 
 pub wide_sum-requires : goal.wide_sum-requires
-wide_sum-requires c =
-    let c = (goal.at.wide_sum-requires c).Else-m-eq0 in
-    fewer c
+wide_sum-requires c =     fewer (goal.at.wide_sum-requires c).Else-m-eq0
 
 -- a term
 abbrev T : Start → ℕ → ℤ
 T s j = at s.args.a.now (s.args.p + j) *ℤ at s.args.v.now (s.args.k + j)
 
 sum_is : (c : After-wide_sum) →
-    to_z w64 (of_z w64 c.wide_sum.result) ≡ sum (c.before.before.args.m - 1) (λ j. T c.before.before (suc j))
+    to_z w64 (of_z w64 c.wide_sum.result) ≡ sum (c.args.m - 1) (λ j. T c.before.before (suc j))
 sum_is c =
-    let s = c.before.before in
     back w64 _ c.wide_sum.type_inv ∙ c.wide_sum.ensures
-    ∙ sum-cong (s.args.m - 1) _ _
+    ∙ sum-cong (c.args.m - 1) _ _
     (λ j l.
-    let e : s.args.p + 1 + j ≡ s.args.p + suc j = omega arith in
-    let f : s.args.k + 1 + j ≡ s.args.k + suc j = omega arith in
+    let e : c.args.p + 1 + j ≡ c.args.p + suc j = omega arith in
+    let f : c.args.k + 1 + j ≡ c.args.k + suc j = omega arith in
     rw (e, f))
 
 sum-small : (c : After-wide_sum) →
-    Within (16 * (most_entry * most_column)) (sum (c.before.before.args.m - 1) (λ j. T c.before.before (suc j)))
+    Within (16 * (most_entry * most_column)) (sum (c.args.m - 1) (λ j. T c.before.before (suc j)))
 sum-small c =
     rw (sym (sum_is c), back w64 _ c.wide_sum.type_inv, c.wide_sum.ensures) (wide-small (fewer c.before) _ (le_refl _))
 
 pub overflow_add-own : goal.overflow_add-own
 overflow_add-own c =
-    let c = (goal.at.overflow_add-own c).After-wide_sum in
-    rw (sum_is c, to_z-of_z c.before.before.ranges.own) (fits (within-+ c.before.before.requires.1 (sum-small c)) tt)
+    rw (sum_is (goal.at.overflow_add-own c).After-wide_sum, to_z-of_z c.ranges.own) (fits (within-+ c.requires.1 (sum-small (goal.at.overflow_add-own c).After-wide_sum)) tt)
 
 -- the first entry, and the sum that it meets
-entry : (c : Else-m-eq0) → Within most_entry (at c.before.args.a.now c.before.args.p)
+entry : (c : Else-m-eq0) → Within most_entry (at c.args.a.now c.args.p)
 entry c =
-    let s = c.before in
-    let e : s.args.p + 0 ≡ s.args.p = omega arith in
-    rw e at (s.requires.0.entries 0 (let h = c.if-m-eq0.false in omega arith))
+    let e : c.args.p + 0 ≡ c.args.p = omega arith in
+    rw e at (c.requires.0.entries 0 (let h = c.if-m-eq0.false in omega arith))
 
-latest : (c : Else-m-eq0) → to_z w64 (of_z w64 c.before.args.first) ≡ at c.before.args.v.now c.before.args.k
-latest c = to_z-of_z c.before.ranges.first ∙ c.before.requires.2 (let h = c.if-m-eq0.false in omega arith)
+latest : (c : Else-m-eq0) → to_z w64 (of_z w64 c.args.first) ≡ at c.args.v.now c.args.k
+latest c = to_z-of_z c.ranges.first ∙ c.requires.2 (let h = c.if-m-eq0.false in omega arith)
 
 pub with_sum-requires : goal.with_sum-requires
 with_sum-requires c =
-    let c = (goal.at.with_sum-requires c).After-with_sum-arg-1 in
-    let w = c.before in
-    let s = w.before.before in
     rw (
-      sum_is w,
-      to_z-of_z s.ranges.own,
-      latest w.before,
-      reads w32 (entry w.before) tt,
-      reads w64 (within-+ s.requires.1 (sum-small w)) tt,
+      sum_is (goal.at.with_sum-requires c).After-wide_sum,
+      to_z-of_z c.ranges.own,
+      latest (goal.at.with_sum-requires c).Else-m-eq0,
+      reads w32 (entry (goal.at.with_sum-requires c).Else-m-eq0) tt,
+      reads w64 (within-+ c.requires.1 (sum-small (goal.at.with_sum-requires c).After-wide_sum)) tt,
     ) (
-      fits (entry w.before) tt,
-      fits (within-* (entry w.before) (s.requires.0.numbers.small _)) tt,
-      fits (within-+ (within-+ s.requires.1 (sum-small w)) (within-* (entry w.before) (s.requires.0.numbers.small _))) tt,
+      fits (entry (goal.at.with_sum-requires c).Else-m-eq0) tt,
+      fits (within-* (entry (goal.at.with_sum-requires c).Else-m-eq0) (c.requires.0.numbers.small _)) tt,
+      fits (within-+ (within-+ c.requires.1 (sum-small (goal.at.with_sum-requires c).After-wide_sum)) (within-* (entry (goal.at.with_sum-requires c).Else-m-eq0) (c.requires.0.numbers.small _))) tt,
     )
 
 pub returns : goal.returns
 returns c =
-    let c = (goal.at.returns c).After-with_sum in
-    let w = c.before.before in
-    let s = w.before.before in
     back w64 _ c.with_sum.type_inv ∙ c.with_sum.ensures
     ∙ rw (
-      sum_is w,
-      to_z-of_z s.ranges.own,
-      latest w.before,
-      reads w32 (entry w.before) tt,
-      reads w64 (within-+ s.requires.1 (sum-small w)) tt,
+      sum_is (goal.at.returns c).After-wide_sum,
+      to_z-of_z c.ranges.own,
+      latest (goal.at.returns c).Else-m-eq0,
+      reads w32 (entry (goal.at.returns c).Else-m-eq0) tt,
+      reads w64 (within-+ c.requires.1 (sum-small (goal.at.returns c).After-wide_sum)) tt,
     )
-    (first-apart s ∙ ap (λ (z : ℤ). s.args.own +ℤ z) (sum_head s.args.m (T s) w.before.if-m-eq0.false))
+    (first-apart (goal.at.returns c).Start ∙ ap (λ (z : ℤ). c.args.own +ℤ z) (sum_head c.args.m (T (goal.at.returns c).Start) c.if-m-eq0.false))
   where
-    first-apart : (s : Start) →
-        (s.args.own +ℤ sum (s.args.m - 1) (λ j. T s (suc j))) +ℤ (at s.args.a.now s.args.p *ℤ at s.args.v.now
-        s.args.k)
-        ≡ s.args.own +ℤ (T s 0 +ℤ sum (s.args.m - 1) (λ j. T s (suc j)))
-    first-apart s =
-        let e : s.args.p + 0 ≡ s.args.p = omega arith in
-        let f : s.args.k + 0 ≡ s.args.k = omega arith in
-        rw (e, f) (turned s.args.own _ _)
+    first-apart : ((goal.at.returns c).Start : tie.Start) →
+        (c.args.own +ℤ sum (c.args.m - 1) (λ j. T (goal.at.returns c).Start (suc j))) +ℤ (at c.args.a.now c.args.p *ℤ at c.args.v.now
+        c.args.k)
+        ≡ c.args.own +ℤ (T (goal.at.returns c).Start 0 +ℤ sum (c.args.m - 1) (λ j. T (goal.at.returns c).Start (suc j)))
+    first-apart (goal.at.returns c).Start =
+        let e : c.args.p + 0 ≡ c.args.p = omega arith in
+        let f : c.args.k + 0 ≡ c.args.k = omega arith in
+        rw (e, f) (turned c.args.own _ _)
       where
         turned : (o a b : ℤ) → (o +ℤ a) +ℤ b ≡ o +ℤ (b +ℤ a)
         turned o a b = simp lia (omega arith)

@@ -3,14 +3,11 @@ use Rattle.std.proofs.Common.{sym, arith}
 use borrow.Author.Tests.{not-false}
 use Rattle.trianglerows.specs.TrianglesUndone.{undo-start, undone-none, undone-more, undone-all}
 use Rattle.trianglerows.proofs.undone.undo_upper_eight.Goals as goal
-use Rattle.trianglerows.proofs.undone.undo_upper_eight.Goals.{After-undo_upper, After-undo_upper-arg-1}
 
 pub undo_upper-a-requires : goal.undo_upper-a-requires
 undo_upper-a-requires c =
-    let c = (goal.at.undo_upper-a-requires c).After-undo_upper-arg-1 in
-    let a = c.before.before in
-    let s = a.before.before.before in (
-      undo-start s.requires.0 (sym s.requires.2) a.upper_rest_sums.ensures,
+    let s = c.before in (
+      undo-start s.requires.0 (sym s.requires.2) c.upper_rest_sums.ensures,
       s.requires.1,
       omega arith,
       omega (arith, s.requires.2),
@@ -19,11 +16,7 @@ undo_upper-a-requires c =
 
 pub returns : goal.returns
 returns c =
-    let c = (goal.at.returns c).After-undo_upper in
-    let e = c.before.before.before in
-    let r = e.before.before in
-    let a = r.before.before.before in
-    let s = a.before.before.before in
-    let none = undone-none (undo-start s.requires.0 (sym s.requires.2) a.upper_rest_sums.ensures) in
-    let four = undone-more 0 4 none r.undo_upper-a.ensures (omega arith) (not-false _ e.if-not-a.false) in
+    let s = c.before in
+    let none = undone-none (undo-start s.requires.0 (sym s.requires.2) c.upper_rest_sums.ensures) in
+    let four = undone-more 0 4 none c.undo_upper-a.ensures (omega arith) (not-false _ c.if-not-a.false) in
     undone-all 4 8 four c.undo_upper.ensures (omega arith) s.requires.2
