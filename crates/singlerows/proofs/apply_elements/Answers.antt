@@ -40,9 +40,9 @@ applied_whole-z-requires c =
     let s = S (goal.at.applied_whole-z-requires c).In-loop-j in
     let l = c.loop-j in
     rw (total (goal.at.applied_whole-z-requires c).After-crossing_total-s, sign (goal.at.applied_whole-z-requires c).After-sign_at, number (goal.at.applied_whole-z-requires c).In-loop-j, to_z-of_z s.fits.d) (
-      rest-element-small s.pre.0.0 l.j (inside (goal.at.applied_whole-z-requires c).In-loop-j) s.pre.0.2,
-      s.pre.0.1,
-      s.pre.0.0.sign l.j (inside (goal.at.applied_whole-z-requires c).In-loop-j),
+      rest-element-small s.requires.0.0 l.j (inside (goal.at.applied_whole-z-requires c).In-loop-j) s.requires.0.2,
+      s.requires.0.1,
+      s.requires.0.0.sign l.j (inside (goal.at.applied_whole-z-requires c).In-loop-j),
       l.invariant.2.small _,
     )
 

@@ -19,8 +19,8 @@ before c =
 pub overflow_mul-result : goal.overflow_mul-result
 overflow_mul-result c =     let h = before (goal.at.overflow_mul-result c).After-line_of in omega arith
 
-spot : (c : After-spot_of) → let q = c.args.q in c.spot_of_lem.result < q.n1
-spot c = rw c.spot_of_lem.ensures (spot-below c.args.q c.args.e c.requires.4)
+spot : (c : After-spot_of) → let q = c.args.q in c.spot_of.result < q.n1
+spot c = rw c.spot_of.ensures (spot-below c.args.q c.args.e c.requires.4)
 
 pub line_turn-requires : goal.line_turn-requires
 line_turn-requires c =     (c.requires.1, spot (goal.at.line_turn-requires c).After-spot_of)
@@ -36,5 +36,5 @@ pub returns : goal.returns
 unfolding factor_at
 returns c =
     let q = c.args.q in
-    rw (c.line_of.ensures, c.line_turn.ensures, c.spot_of_lem.ensures)
+    rw (c.line_of.ensures, c.line_turn.ensures, c.spot_of.ensures)
     (pass-turn q (factor_at c.args.sheet.now q.n1 q.i) c.args.e)

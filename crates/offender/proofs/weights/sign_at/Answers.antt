@@ -29,4 +29,4 @@ both_signs-requires c =
 pub sign_of-requires-in-Pass : goal.sign_of-requires-in-Pass
 sign_of-requires-in-Pass c =
     let l = in_spot c.requires.0 c.in-Pass.is c.args.e c.requires.1 in
-    (first c.requires.0, rw c.spot_of_lem.ensures l)
+    (first c.requires.0, rw c.spot_of.ensures l)

@@ -30,9 +30,9 @@ S k = k.before.before.before
 pub run_one_pass-requires : goal.run_one_pass-requires
 run_one_pass-requires c =
     let s = S (goal.at.run_one_pass-requires c).After-count_at-k in (
-      rw c.count_at-m.ensures (first-asks s.args.columns s.args.run s.pre.0),
+      rw c.count_at-m.ensures (first-asks s.args.columns s.args.run s.requires.0),
       omega (arith, c.smaller.ensures, c.count_at-k.ensures),
-      s.pre.1,
+      s.requires.1,
     )
 
 -- the counts, from the end of the first pass
@@ -57,15 +57,15 @@ pub element_in_pass-requires : goal.element_in_pass-requires
 element_in_pass-requires c =
     let k = K (goal.at.element_in_pass-requires c).After-run_one_pass in
     let s = S k in
-    let p = s.pre.0 in
+    let p = s.requires.0 in
     let o = accepted-order p.next in
     let l = here (goal.at.element_in_pass-requires c).Then-t-k in (
       p.one,
       p.ones,
       rw k.before.count-at2.ensures o.least,
       rw k.before.count-at2.ensures o.most,
-      omega (arith, s.pre.2.some),
-      one-small (early (goal.at.element_in_pass-requires c).Then-t-k) (s.pre.2.early l) (next s),
+      omega (arith, s.requires.2.some),
+      one-small (early (goal.at.element_in_pass-requires c).Then-t-k) (s.requires.2.early l) (next s),
       (early (goal.at.element_in_pass-requires c).Then-t-k).wide,
     )
 
@@ -75,7 +75,7 @@ returns-then-t-k c =
     let s = S k in
     let a = s.args in
     ends_at
-    (first-refused (count a.first.now 1) _ (one-named (early (goal.at.returns-then-t-k c).Then-t-k) (s.pre.2.early (here (goal.at.returns-then-t-k c).Then-t-k)) (next s) (here (goal.at.returns-then-t-k c).Then-t-k)))
+    (first-refused (count a.first.now 1) _ (one-named (early (goal.at.returns-then-t-k c).Then-t-k) (s.requires.2.early (here (goal.at.returns-then-t-k c).Then-t-k)) (next s) (here (goal.at.returns-then-t-k c).Then-t-k)))
     refl
     (c.element_in_pass.ensures ∙ named-same a.run a.first.now _ refl k.before.count-at2.ensures refl)
 
@@ -110,8 +110,8 @@ pub run_turned-requires : goal.run_turned-requires
 run_turned-requires c =
     let k = K (goal.at.run_turned-requires c).After-run_one_pass in
     let s = S k in
-    let p = s.pre.0 in
-    let m = s.pre.2.most in (
+    let p = s.requires.0 in
+    let m = s.requires.2.most in (
       p.next,
       p.nexts,
       rw k.before.before.count_at.ensures (accepted-order p.one).most,
@@ -141,9 +141,9 @@ element_in_pass-requires-2 c =
     let k = K e.before in
     let s = S k in
     let a = s.args in
-    let p = s.pre.0 in
+    let p = s.requires.0 in
     let o = accepted-order p.one in
-    let m = s.pre.2.most in
+    let m = s.requires.2.most in
     let l = over e in (
       p.next,
       p.nexts,
@@ -161,10 +161,10 @@ returns c =
     let k = K e.before in
     let s = S k in
     let a = s.args in
-    let m = s.pre.2.most in
+    let m = s.requires.2.most in
     let l = over e in
     ends_at
-    (second-named a.columns a.run s.pre.0 (one-done (whole e) refl (passed e)) ((whole e).small (passed e)) (second (goal.at.returns c).After-run_turned)
+    (second-named a.columns a.run s.requires.0 (one-done (whole e) refl (passed e)) ((whole e).small (passed e)) (second (goal.at.returns c).After-run_turned)
     (refused e) (after e) (omega arith))
     (omega arith)
     (c.element_in_pass-2.ensures

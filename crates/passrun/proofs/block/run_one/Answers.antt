@@ -47,7 +47,7 @@ returns-then-not-r c =
     let s = S (R (goal.at.returns-then-not-r c).Then-not-r) in
     let a = s.args in
     ends-refused a.run.task a.y.now
-    (ran-is a.run _ _ a.x.now s.pre.input
+    (ran-is a.run _ _ a.x.now s.requires.input
     ∙ ends_at (one-named c.run_one_pass.ensures (stopped (goal.at.returns-then-not-r c).Then-not-r).2 (next (goal.at.returns-then-not-r c).Then-not-r) (stopped (goal.at.returns-then-not-r c).Then-not-r).1) refl c.element_in_pass.ensures)
     c.note-then-not-r.ensures
 
@@ -62,7 +62,7 @@ pub store-requires : goal.store-requires
 store-requires c =
     let s = S (D (goal.at.store-requires c).After-count_at) in
     let e = c.count_at.ensures in
-    (s.pre.most, rw e (accepted-order s.pre.sheet).most, (ended (D (goal.at.store-requires c).After-count_at)).wide, rw e s.pre.output)
+    (s.requires.most, rw e (accepted-order s.requires.sheet).most, (ended (D (goal.at.store-requires c).After-count_at)).wide, rw e s.requires.output)
 
 -- the output, of the order itself
 abbrev K : After-store → After-count_at
@@ -80,5 +80,5 @@ returns c =
     let s = S r in
     let a = s.args in
     ends-done _ a.y.now _
-    (ran-is a.run _ _ a.x.now s.pre.input ∙ one-done (ended r) refl (not-false _ (K (goal.at.returns c).After-store).before.if2.false))
+    (ran-is a.run _ _ a.x.now s.requires.input ∙ one-done (ended r) refl (not-false _ (K (goal.at.returns c).After-store).before.if2.false))
     (stored (goal.at.returns c).After-store)

@@ -55,7 +55,7 @@ pub run_turned-s-requires : goal.run_turned-s-requires
 run_turned-s-requires c =
     let r = R (goal.at.run_turned-s-requires c).After-count_at-3 in
     let s = S r in
-    let p = s.pre.0 in (
+    let p = s.requires.0 in (
       p.next,
       p.nexts,
       rw c.count_at-2.ensures (accepted-order p.one).most,
@@ -72,7 +72,7 @@ both : (c : After-run_turned-s) → let a = (S (R c.before)).args in
 both c last o z =
     let r = R c.before in
     let s = S r in
-    ended-second s.args.columns s.args.run s.pre.0 (one-done (ended r) refl (passed c.before)) ((ended r).small (passed c.before))
+    ended-second s.args.columns s.args.run s.requires.0 (one-done (ended r) refl (passed c.before)) ((ended r).small (passed c.before))
     (turned-stages c.count_at-2.ensures c.count_at-3.ensures c.run_turned-s.ensures) refl {last = last} o z
 
 pub overflow_add-result : goal.overflow_add-result

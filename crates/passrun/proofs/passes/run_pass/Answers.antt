@@ -31,12 +31,12 @@ count_at-n-requires c =     order-counts c.requires.0
 pub run_stage-requires : goal.run_stage-requires
 run_stage-requires c =
     let s = S (goal.at.run_stage-requires c).At-loop-t in
-    let o = accepted-order s.pre.0 in
+    let o = accepted-order s.requires.0 in
     let n = c.loop-t.invariant.1 in (
       rw n o.least,
       rw n o.most,
-      rw (c.nth_start-i.ensures, n) (s.pre.0.each (T (goal.at.run_stage-requires c).In-loop-t) (below (goal.at.run_stage-requires c).In-loop-t)),
-      s.pre.2,
+      rw (c.nth_start-i.ensures, n) (s.requires.0.each (T (goal.at.run_stage-requires c).In-loop-t) (below (goal.at.run_stage-requires c).In-loop-t)),
+      s.requires.2,
       c.loop-t.invariant.2,
       c.loop-t.invariant.3,
     )
@@ -49,7 +49,7 @@ stepped :
     (laid N r c.loop-t.x)) c.run_stage.result (laid N r c.run_stage.new.1.1.1.1.1.0)
 stepped c N r h =
     let s = S c.before.before.before in
-    told s.args.run h s.pre.0 c.loop-t.t c.loop-t.invariant.1
+    told s.args.run h s.requires.0 c.loop-t.t c.loop-t.invariant.1
     c.nth_start-i.ensures (below c.before.before) c.run_stage.ensures
 
 pub returns-then-not-run_stage : goal.returns-then-not-run_stage

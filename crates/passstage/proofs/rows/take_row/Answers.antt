@@ -42,7 +42,7 @@ pub add_columns-requires-2 : goal.add_columns-requires-2
 add_columns-requires-2 c =
     let s = start (goal.at.add_columns-requires-2 c).Else-left-right-eq0 in
     rw c.row-of.ensures
-    (right-parting s.pre.0 s.args.m s.pre.1 s.pre.3 (left (goal.at.add_columns-requires-2 c).Else-left-right-eq0))
+    (right-parting s.requires.0 s.args.m s.requires.1 s.requires.3 (left (goal.at.add_columns-requires-2 c).Else-left-right-eq0))
 
 -- and on the right
 right : (c : After-add_columns-2) → let s = start c.before.before in
@@ -56,15 +56,15 @@ right c = rw c.row-of.ensures at c.add_columns-2.ensures
 pub make_numbers-requires : goal.make_numbers-requires
 make_numbers-requires c =
     let s = start (goal.at.make_numbers-requires c).Else-left-right-eq0 in (
-      rw (sign s) (row-given s.pre.0 s.args.m s.pre.1 s.pre.3 s.args.w s.pre.2 s.pre.4),
-      sums-small s.pre.0 s.args.m s.pre.1 s.pre.3 (left (goal.at.make_numbers-requires c).Else-left-right-eq0) (right (goal.at.make_numbers-requires c).After-add_columns-2),
+      rw (sign s) (row-given s.requires.0 s.args.m s.requires.1 s.requires.3 s.args.w s.requires.2 s.requires.4),
+      sums-small s.requires.0 s.args.m s.requires.1 s.requires.3 (left (goal.at.make_numbers-requires c).Else-left-right-eq0) (right (goal.at.make_numbers-requires c).After-add_columns-2),
     )
 
 pub returns : goal.returns
 returns c =
     let s = start (goal.at.returns c).Else-left-right-eq0 in
-    let w = together-wide s.args.w s.pre.2 in
-    row-summed s.args.back (K s) s.pre.0 s.args.m s.pre.1 s.pre.3 s.args.w s.pre.2
+    let w = together-wide s.args.w s.requires.2 in
+    row-summed s.args.back (K s) s.requires.0 s.args.m s.requires.1 s.requires.3 s.args.w s.requires.2
     c.add_columns-2.new.1.1.1.1.1.1.0
-    (λ i l. sums-along s.pre.0 s.args.m s.pre.1 s.pre.3 (left (goal.at.returns c).Else-left-right-eq0) (right (goal.at.returns c).After-add_columns-2) i (omega (arith, w.0)) w.1)
+    (λ i l. sums-along s.requires.0 s.args.m s.requires.1 s.requires.3 (left (goal.at.returns c).Else-left-right-eq0) (right (goal.at.returns c).After-add_columns-2) i (omega (arith, w.0)) w.1)
     (rw (sign s) at c.make_numbers.ensures)

@@ -39,17 +39,17 @@ pub copy_front-requires : goal.copy_front-requires
 copy_front-requires c =
     let s = S (goal.at.copy_front-requires c).After-count_at-n2 in
     let h = few s in
-    let l : length s.args.b.now ≡ 256 = ap length s.pre.5 in
+    let l : length s.args.b.now ≡ 256 = ap length s.requires.5 in
     (omega arith, omega arith)
 
 pub run_stages-requires : goal.run_stages-requires
 run_stages-requires c =
     let s = S (goal.at.run_stages-requires c).After-count_at-n2 in
-    let l = loads-copied s.pre.0 s.args.run {x = s.args.x.now} (few s) s.pre.4
-    (rw s.pre.5 at c.copy_front.ensures) in (
-      s.pre.0,
-      s.pre.1,
-      s.pre.2,
+    let l = loads-copied s.requires.0 s.args.run {x = s.args.x.now} (few s) s.requires.4
+    (rw s.requires.5 at c.copy_front.ensures) in (
+      s.requires.0,
+      s.requires.1,
+      s.requires.2,
       c.count_at-n1.ensures,
       c.count_at-n2.ensures,
       omega arith,
@@ -66,18 +66,18 @@ stands :
     (a.stage - 1) c.run_stages.new.1.1.1.1.1.1.1.1.1.0
 stands c =
     let s = S c.before.before in
-    let l = loads-copied s.pre.0 s.args.run {x = s.args.x.now} (few s) s.pre.4
-    (rw s.pre.5 at c.copy_front.ensures) in
-    progress-goes c.run_stages.ensures.0 l.stands s.pre.8 (omega (arith, s.pre.6))
+    let l = loads-copied s.requires.0 s.args.run {x = s.args.x.now} (few s) s.requires.4
+    (rw s.requires.5 at c.copy_front.ensures) in
+    progress-goes c.run_stages.ensures.0 l.stands s.requires.8 (omega (arith, s.requires.6))
 
 pub nth_start-j-requires : goal.nth_start-j-requires
 nth_start-j-requires c =
-    let s = S (goal.at.nth_start-j-requires c).After-count_at-n2 in (s.pre.0.row, s.pre.2, rw (agree s) (in-turn s))
+    let s = S (goal.at.nth_start-j-requires c).After-count_at-n2 in (s.requires.0.row, s.requires.2, rw (agree s) (in-turn s))
 
 pub joint_element-requires : goal.joint_element-requires
 joint_element-requires c =
     let s = S (goal.at.joint_element-requires c).After-count_at-n2 in
-    let m = s.pre.0 in
+    let m = s.requires.0 in
     let e = c.count_at-n1.ensures in
     let d = c.count_at-n2.ensures in
     let p = paired m (nth_stage s.args.run.task (count s.args.col.now 1) (s.args.stage - 1))
@@ -94,4 +94,4 @@ returns c =
       c.nth_start-j.ensures,
       agree s,
     ) at c.joint_element.ensures in
-    rw e (named-there s.args.run _ _ s.args.stage s.pre.6 s.pre.7 (stands (goal.at.returns c).After-run_stages) s.pre.8)
+    rw e (named-there s.args.run _ _ s.args.stage s.requires.6 s.requires.7 (stands (goal.at.returns c).After-run_stages) s.requires.8)

@@ -30,7 +30,7 @@ agree c = counts-agree _ _ (S c.before).pre.0.match
 
 pub nth_start-j-requires : goal.nth_start-j-requires
 nth_start-j-requires c =
-    let s = S (goal.at.nth_start-j-requires c).At-loop-t in (s.pre.0.row, s.pre.2, rw (agree (goal.at.nth_start-j-requires c).In-loop-t) (in-turn (goal.at.nth_start-j-requires c).In-loop-t))
+    let s = S (goal.at.nth_start-j-requires c).At-loop-t in (s.requires.0.row, s.requires.2, rw (agree (goal.at.nth_start-j-requires c).In-loop-t) (in-turn (goal.at.nth_start-j-requires c).In-loop-t))
 
 -- where its factor of the row sheet starts
 row : (c : After-nth_start-j) → c.nth_start-j.result ≡ start (S c.before.before.before).args.row.now (T c.before.before)
@@ -40,7 +40,7 @@ pub run_stage-r-requires : goal.run_stage-r-requires
 run_stage-r-requires c =
     let l = c.loop-t in
     let s = S (goal.at.run_stage-r-requires c).At-loop-t in
-    let p = paired s.pre.0 (T (goal.at.run_stage-r-requires c).In-loop-t) (stage-below _ _ _ (in-turn (goal.at.run_stage-r-requires c).In-loop-t)) s.pre.3 s.pre.4 c.nth_start-i.ensures
+    let p = paired s.requires.0 (T (goal.at.run_stage-r-requires c).In-loop-t) (stage-below _ _ _ (in-turn (goal.at.run_stage-r-requires c).In-loop-t)) s.requires.3 s.requires.4 c.nth_start-i.ensures
     (row (goal.at.run_stage-r-requires c).After-nth_start-j) in
     (p, l.invariant.2, l.invariant.3)
 
@@ -60,7 +60,7 @@ told :
     c.run_stage-r.result.ok c.run_stage-r.new.1.1.1.1.1.1.1.0
 told c =
     let s = S c.before.before.before.before in
-    of-orders s.args.run _ _ _ _ s.pre.3 s.pre.4 c.nth_start-i.ensures (row c.before) c.run_stage-r.ensures.0
+    of-orders s.args.run _ _ _ _ s.requires.3 s.requires.4 c.nth_start-i.ensures (row c.before) c.run_stage-r.ensures.0
 
 pub returns-then-not-r : goal.returns-then-not-r
 returns-then-not-r c =

@@ -63,8 +63,8 @@ module _ (w : After-is_even-even) where
   module _ {task : Task} (t : s.args.run.task ≡ task) where
     asks : Weighable task s.args.col.now fa s.args.row.now fb s.args.x.now
     asks =
-        stage-asks s.pre.0 l.before.layout-at.ensures l.layout-at2.ensures weighs s.args.run t s.pre.1
-        s.pre.2
+        stage-asks s.requires.0 l.before.layout-at.ensures l.layout-at2.ensures weighs s.args.run t s.requires.1
+        s.requires.2
 
     told : {ok : Bool} {y : List ℤ} →
         Weighed task s.args.run.rule s.args.col.now fa s.args.row.now fb s.args.x.now ok y →
@@ -74,8 +74,8 @@ module _ (w : After-is_even-even) where
         (factor_at s.args.row.now s.args.n2 s.args.j)) s.args.x.now) ok y
         × (length y ≡ most_cells)
     told w =
-        stage-weighed s.pre.0 l.before.layout-at.ensures l.layout-at2.ensures weighs s.args.run t s.pre.1
-        s.pre.2 w
+        stage-weighed s.requires.0 l.before.layout-at.ensures l.layout-at2.ensures weighs s.args.run t s.requires.1
+        s.requires.2 w
 
     -- the same of rows that take the rule by its two tests
     told-by : {ok : Bool} {y : List ℤ} →

@@ -58,9 +58,9 @@ applied_whole-z-requires c =
     let s = S (goal.at.applied_whole-z-requires c).In-loop-j in
     let l = c.loop-j in
     rw (total (goal.at.applied_whole-z-requires c).After-upper_total-s, sign (goal.at.applied_whole-z-requires c).After-sign_at, number (goal.at.applied_whole-z-requires c).In-loop-j, to_z-of_z s.fits.d) (
-      rest-element-small s.pre.0.0 l.j (inside (goal.at.applied_whole-z-requires c).In-loop-j) s.pre.0.2,
-      s.pre.0.1,
-      s.pre.0.0.sign l.j (inside (goal.at.applied_whole-z-requires c).In-loop-j),
+      rest-element-small s.requires.0.0 l.j (inside (goal.at.applied_whole-z-requires c).In-loop-j) s.requires.0.2,
+      s.requires.0.1,
+      s.requires.0.0.sign l.j (inside (goal.at.applied_whole-z-requires c).In-loop-j),
       l.invariant.3.small _,
     )
 
@@ -109,7 +109,7 @@ loop-j-preserved c =
       rw (value (goal.at.loop-j-preserved c).After-applied_whole-z, z) (run-next _ (λ u. s.args.k + u) s.args.from l.j s.args.x.now l.inv.0
           l.inv.2),
       rw (value (goal.at.loop-j-preserved c).After-applied_whole-z, z) (bounded-set l.x (s.args.k + l.j) l.inv.3 (held (goal.at.loop-j-preserved c).Else-not-is_within)),
-      rw s.pre.2 (ap (λ (z : ℕ). z + (s.args.f.order - 1 - l.j)) l.inv.4 ∙ upper-next s.args.f l.j s.pre.1),
+      rw s.requires.2 (ap (λ (z : ℕ). z + (s.args.f.order - 1 - l.j)) l.inv.4 ∙ upper-next s.args.f l.j s.requires.1),
     )
 
 pub returns : goal.returns

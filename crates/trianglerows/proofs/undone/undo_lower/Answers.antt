@@ -132,8 +132,8 @@ pub overflow_add-p-in-loop-j : goal.overflow_add-p-in-loop-j
 overflow_add-p-in-loop-j c =
     let s = S (goal.at.overflow_add-p-in-loop-j c).At-loop-j in
     let l = c.loop in
-    let r = (s.pre.0.row.row l.j (inside (goal.at.overflow_add-p-in-loop-j c).At-loop-j)).room in
-    let e = lower-left s.args.fb l.j s.pre.1 in
+    let r = (s.requires.0.row.row l.j (inside (goal.at.overflow_add-p-in-loop-j c).At-loop-j)).room in
+    let e = lower-left s.args.fb l.j s.requires.1 in
     let p = l.invariant.2 in
     omega arith
 
@@ -144,7 +144,7 @@ loop-j-preserved c =
       (let h = c.loop-test.true in omega arith),
       rw (value (goal.at.loop-j-preserved c).After-undone_whole-z, reads w32 (held (goal.at.loop-j-preserved c).Else-not-is_within) tt, sum_is (goal.at.loop-j-preserved c).After-with_diagonal-last)
           (undoing-next (S (goal.at.loop-j-preserved c).At-loop-j).requires.0 l.invariant.1 (inside (goal.at.loop-j-preserved c).At-loop-j) (inside (goal.at.loop-j-preserved c).At-loop-j) (turn (goal.at.loop-j-preserved c).At-loop-j) (held (goal.at.loop-j-preserved c).Else-not-is_within)),
-      ap (λ (z : ℕ). z + l.j) l.invariant.2 ∙ lower-next s.args.fb l.j s.pre.1,
+      ap (λ (z : ℕ). z + l.j) l.invariant.2 ∙ lower-next s.args.fb l.j s.requires.1,
       sum_is (goal.at.loop-j-preserved c).After-with_diagonal-last
           ∙ sym (rw (sum_is (goal.at.loop-j-preserved c).After-with_diagonal-last) (recent-next _ (λ t. t) l.j
           ∙ set_at l.v l.j (G (goal.at.loop-j-preserved c).At-loop-j) (omega (arith, column (goal.at.loop-j-preserved c).At-loop-j, l.invariant.1.recovered.long)))),

@@ -74,8 +74,8 @@ entries_at c =
     let s = S c in
     let l = c.loop-t in
     let g = above_step s.args.fb.order l.t (in-turn c) in
-    let f = upper-at s.args.fb (J c) s.pre.1 in
-    let e : s.args.fb.order - 1 - l.t ≡ J c = let q = s.pre.4 in omega arith in
+    let f = upper-at s.args.fb (J c) s.requires.1 in
+    let e : s.args.fb.order - 1 - l.t ≡ J c = let q = s.requires.4 in omega arith in
     l.invariant.2 ∙ (let k = rw e at g in omega arith)
 
 pub overflow_sub-p : goal.overflow_sub-p
@@ -85,12 +85,12 @@ pub upper_total-s-requires : goal.upper_total-s-requires
 upper_total-s-requires c =
     let s = S (goal.at.upper_total-s-requires c).At-loop-t in
     let l = c.loop in (
-      (s.pre.0.row, inside (goal.at.upper_total-s-requires c).At-loop-t, l.invariant.1.recovered.small),
-      s.pre.1,
+      (s.requires.0.row, inside (goal.at.upper_total-s-requires c).At-loop-t, l.invariant.1.recovered.small),
+      s.requires.1,
       (let e = entries_at (goal.at.upper_total-s-requires c).At-loop-t in omega arith),
-      (let e = s.pre.4 in let h = in-turn (goal.at.upper_total-s-requires c).At-loop-t in omega arith),
+      (let e = s.requires.4 in let h = in-turn (goal.at.upper_total-s-requires c).At-loop-t in omega arith),
       λ some. l.invariant.3 ∙ recent-some _ _ l.t (λ z. omega arith)
-          ∙ (let e : s.args.n - suc (l.t - 1) ≡ J (goal.at.upper_total-s-requires c).At-loop-t + 1 = let h = in-turn (goal.at.upper_total-s-requires c).At-loop-t in let q = s.pre.4 in omega arith in ap (at l.v) e),
+          ∙ (let e : s.args.n - suc (l.t - 1) ≡ J (goal.at.upper_total-s-requires c).At-loop-t + 1 = let h = in-turn (goal.at.upper_total-s-requires c).At-loop-t in let q = s.requires.4 in omega arith in ap (at l.v) e),
     )
 
 -- its place
@@ -196,8 +196,8 @@ next-at : (c : In-loop-t) →
 next-at c =
     let s = S c in
     let h = entries_at c in
-    let f = upper-at s.args.fb (J c) s.pre.1 in
-    let e : s.args.fb.order - (c.loop-t.t + 1) ≡ J c = let q = s.pre.4 in let b = in-turn c in omega arith in
+    let f = upper-at s.args.fb (J c) s.requires.1 in
+    let e : s.args.fb.order - (c.loop-t.t + 1) ≡ J c = let q = s.requires.4 in let b = in-turn c in omega arith in
     rw e (omega arith)
 
 -- the latest sum is its column's
