@@ -11,9 +11,9 @@ use Rattle.rules.specs.declared.Rule.{Rule}
 use Rattle.rules.specs.Stages.{R, off, weighed, recover}
 use Rattle.rules.specs.Shapes.{by_turn}
 use Rattle.rules.specs.GoodStages.{Permutes, Recovers}
-use Rattle.rules.specs.Laws.Lists.{set_at, set_other}
-use Rattle.rules.specs.Laws.RecoveryOrder.{Ranked, turns-recover, turn_one}
-use Rattle.rules.specs.Laws.Inverses.{recover-append, any_order}
+use Rattle.rules.proofs.Laws.Lists.{set_at, set_other}
+use Rattle.rules.proofs.Laws.RecoveryOrder.{Ranked, turns-recover, turn_one}
+use Rattle.rules.proofs.Laws.Inverses.{recover-append, any_order}
 
 -- the list after t turns; in a turn the element is made of the list as it stands
 unfoldable pub in_place : (List ℤ → ℕ → ℤ) → (ℕ → ℕ) → ℕ → List ℤ → List ℤ

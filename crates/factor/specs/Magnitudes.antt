@@ -9,7 +9,7 @@ use Rattle.whole.specs.Diff.{lia, Within}
 use Rattle.whole.specs.Sum.{sum-cong}
 use Rattle.rules.specs.Numbers.{most_order, most_entry, unit, most_allowance, at}
 use Rattle.rules.specs.Stages.{fill}
-use Rattle.rules.specs.Laws.Lists.{length-fill, fill-at}
+use Rattle.rules.proofs.Laws.Lists.{length-fill, fill-at}
 use Rattle.factor.specs.declared.Row.{Row}
 use Rattle.factor.specs.Layouts.{row, along}
 use Rattle.factor.specs.SumBounds.{Bounded, RowIn, along-small}

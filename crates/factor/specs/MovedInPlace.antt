@@ -5,8 +5,8 @@ use Rattle.std.proofs.Math.Decide.{ℕ_discrete}
 use Rattle.rules.specs.Numbers.{most_order, at}
 use Rattle.rules.specs.Stages.{fill, put_back}
 use Rattle.rules.specs.GoodStages.{Permutes}
-use Rattle.rules.specs.Laws.SoundFactors.{same-permutes}
-use Rattle.rules.specs.Laws.Lists.{fill-at, set_at, set_other}
+use Rattle.rules.proofs.Laws.SoundFactors.{same-permutes}
+use Rattle.rules.proofs.Laws.Lists.{fill-at, set_at, set_other}
 use Rattle.factor.specs.SumBounds.{Bounded, bounded-fill, bounded-put}
 
 -- place q m is set to g m, for each m below n

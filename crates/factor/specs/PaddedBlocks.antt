@@ -12,8 +12,8 @@ use Rattle.rules.specs.Numbers.{at}
 use Rattle.rules.specs.Stages.{Ran, done, beyond, fill, inside}
 use Rattle.rules.specs.Answers.{accepted, refused_at}
 use Rattle.rules.specs.Calls.{Reply, reply, ran_answer, ran_memory}
-use Rattle.rules.specs.Laws.Lists.{length-fill, fill-at, fill-past, inside-at, same-list}
-use Rattle.rules.specs.Laws.Padding.{padded_run}
+use Rattle.rules.proofs.Laws.Lists.{length-fill, fill-at, fill-past, inside-at, same-list}
+use Rattle.rules.proofs.Laws.Padding.{padded_run}
 use Rattle.laws.specs.AnswersInTurn.{ran_reply}
 use Rattle.factor.specs.SumBounds.{Bounded}
 

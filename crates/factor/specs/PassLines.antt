@@ -3,7 +3,7 @@
 use Rattle.std.specs.Prelude.{Bool, true, false, ◌≡◌, refl, ℕ, ◌*◌}
 use Rattle.std.proofs.Math.Nat as NatL
 use Rattle.rules.specs.Shapes.{Lines, columns, rows}
-use Rattle.rules.specs.Laws.Passes.{Tiles, columns-tile, rows-tile}
+use Rattle.rules.proofs.Laws.Passes.{Tiles, columns-tile, rows-tile}
 
 unfoldable pub lines_by : Bool → ℕ → ℕ → Lines
 lines_by true many long = columns long many

@@ -18,7 +18,7 @@ use Rattle.rules.specs.declared.Rule.{Rule}
 use Rattle.rules.specs.declared.Rule.TheVariants.{Nearest, Down, Even}
 use Rattle.rules.specs.Numbers.{unit²}
 use Rattle.rules.specs.Stages.{R, Rounds, share}
-use Rattle.rules.specs.Laws.Rounding.{rounds, rounds-only}
+use Rattle.rules.proofs.Laws.Rounding.{rounds, rounds-only}
 use Rattle.laws.specs.Tests.{apart}
 
 -- ---- a rule by two tests: whether sums go down, and whether halves go to the even number

@@ -13,8 +13,8 @@ use Rattle.rules.specs.Stages.{Stage, Ran, done, beyond, fill, inside, first_rea
 use Rattle.rules.specs.Answers.{accepted, refused_at}
 use Rattle.rules.specs.Calls.{Reply, Gives, reply, ran_answer, ran_memory}
 use Rattle.rules.specs.GoodStages.{AllGood}
-use Rattle.rules.specs.Laws.Padding.{forward-padded, inverse-padded, allowance-padded}
-use Rattle.rules.specs.Laws.Runs.{loop-start, loop-refused}
+use Rattle.rules.proofs.Laws.Padding.{forward-padded, inverse-padded, allowance-padded}
+use Rattle.rules.proofs.Laws.Runs.{loop-start, loop-refused}
 use Rattle.laws.specs.AnswersInTurn.{ran_reply}
 use Rattle.laws.specs.Plans.{forward-length, inverse-length, allowance-length}
 use Rattle.factor.specs.declared.run.Task.{Task}

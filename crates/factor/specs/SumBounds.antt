@@ -18,7 +18,7 @@ use Rattle.rules.specs.Numbers.{most_order, most_entry, most_allowance, at, coun
 use Rattle.rules.specs.Sheets.{kind_of, triangle}
 use Rattle.rules.specs.Factors.{signs_at, numbers, above}
 use Rattle.rules.specs.Stages.{fill, inside, put_back}
-use Rattle.rules.specs.Laws.Lists.{inside-yes, inside-no, set_at, set_other}
+use Rattle.rules.proofs.Laws.Lists.{inside-yes, inside-no, set_at, set_other}
 use Rattle.laws.specs.Tests.{triangle-twice}
 use Rattle.laws.specs.Accepted.{FactorRead, factor-room}
 use Rattle.factor.specs.declared.Row.{Row}

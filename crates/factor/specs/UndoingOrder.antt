@@ -7,7 +7,7 @@ use Rattle.rules.specs.declared.Kind.{Kind}
 use Rattle.rules.specs.declared.Kind.TheVariants.{Permutation, Lower, Upper, Single}
 use Rattle.rules.specs.Factors.{Factor, has_entry, matrix}
 use Rattle.rules.specs.GoodStages.{Permutes}
-use Rattle.rules.specs.Laws.SoundFactors.{same-permutes}
+use Rattle.rules.proofs.Laws.SoundFactors.{same-permutes}
 use Rattle.factor.specs.declared.Row.{Row}
 use Rattle.factor.specs.declared.Layout.{Layout}
 use Rattle.factor.specs.Layouts.{row_by, row_of}

@@ -15,7 +15,7 @@ use Rattle.rules.specs.Numbers.{most_order, unit², most_allowance, at}
 use Rattle.rules.specs.declared.Rule.{Rule}
 use Rattle.rules.specs.Stages.{R}
 use Rattle.rules.specs.GoodStages.{Permutes}
-use Rattle.rules.specs.Laws.Lists.{fill-at, set_at, set_other}
+use Rattle.rules.proofs.Laws.Lists.{fill-at, set_at, set_other}
 use Rattle.factor.specs.declared.Layout.{Layout}
 use Rattle.factor.specs.LayoutInSheet.{InSheet}
 use Rattle.factor.specs.SumBounds.{Bounded, RowIn}

@@ -9,8 +9,8 @@ use Rattle.rules.specs.declared.Kind.TheVariants.{Permutation}
 use Rattle.rules.specs.Numbers.{most_order, most_cells, unit, bound, at}
 use Rattle.rules.specs.Stages.{fill, inside}
 use Rattle.rules.specs.GoodStages.{Permutes}
-use Rattle.rules.specs.Laws.Lists.{length-fill, fill-at, fill-past, same-list}
-use Rattle.rules.specs.Laws.Rectangles.{row-of, col-of}
+use Rattle.rules.proofs.Laws.Lists.{length-fill, fill-at, fill-past, same-list}
+use Rattle.rules.proofs.Laws.Rectangles.{row-of, col-of}
 use Rattle.factor.specs.declared.Layout.{Layout}
 use Rattle.factor.specs.declared.run.Task.{Task}
 use Rattle.factor.specs.declared.run.Task.TheVariants.{Forward, Inverse, Allowance}

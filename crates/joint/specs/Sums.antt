@@ -14,8 +14,8 @@ use Rattle.whole.specs.Stated.{sum}
 use Rattle.whole.specs.Sum.{sum-cong, sum-within}
 use Rattle.rules.specs.Numbers.{most_order, most_cells, most_entry, most_allowance, at}
 use Rattle.rules.specs.Stages.{fill}
-use Rattle.rules.specs.Laws.Lists.{length-fill, fill-at, fill-past, fill-same, same-list, set_other}
-use Rattle.rules.specs.Laws.Rectangles.{row-of, col-of}
+use Rattle.rules.proofs.Laws.Lists.{length-fill, fill-at, fill-past, fill-same, same-list, set_other}
+use Rattle.rules.proofs.Laws.Rectangles.{row-of, col-of}
 use Rattle.factor.specs.declared.Row.{Row}
 use Rattle.factor.specs.SumBounds.{Bounded, RowIn, bounded-le, bounded-set}
 

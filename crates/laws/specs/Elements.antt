@@ -22,9 +22,9 @@ use Rattle.rules.specs.Calls.{ran_answer, run_reply, forward_call, inverse_call,
 use Rattle.rules.specs.Recipes.{packed, numbers_of, left_of}
 use Rattle.rules.specs.Strips.{StripReply, strip_answer, strip}
 use Rattle.rules.specs.GoodStages.{has, Good, AllGood, moves, weighs}
-use Rattle.rules.specs.Laws.Membership.{has-none, has_rest}
-use Rattle.rules.specs.Laws.RecoveryOrder.{those-has}
-use Rattle.rules.specs.Laws.Runs.{run-refused, run_none, run_step, all-reverse}
+use Rattle.rules.proofs.Laws.Membership.{has-none, has_rest}
+use Rattle.rules.proofs.Laws.RecoveryOrder.{those-has}
+use Rattle.rules.proofs.Laws.Runs.{run-refused, run_none, run_step, all-reverse}
 use Rattle.laws.specs.Stated.Calls.{GoodPlan}
 use Rattle.laws.specs.Stated.Elements.{FirstBeyond, order_at, NoElement, Plain, Elements}
 use Rattle.laws.specs.Tests.{apart}

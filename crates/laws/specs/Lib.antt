@@ -12,9 +12,7 @@ pub mod Cut
 pub mod SameStages
 pub mod Plans
 pub mod Promises
-pub mod CutLaw
 pub mod Passes
-pub mod PassCuts
 pub mod PassLines
 pub mod PassProducts
 pub mod Returned

@@ -13,14 +13,14 @@ use Rattle.rules.specs.Stages.{inside, Stage, forward, Ran, done, beyond, later,
 use Rattle.rules.specs.Shapes.{line_stage, line_stages, Lines, columns, rows, pass_stage, pass_stages}
 use Rattle.rules.specs.Answers.{accepted}
 use Rattle.rules.specs.Calls.{Gives, Plan, line, two_pass, column_pass, row_pass, forward_call, inverse_call}
-use Rattle.rules.specs.Laws.SoundFactors.{Sound, AllSound}
-use Rattle.rules.specs.Laws.Lists.{length-fill, fill-at, inside-yes, inside-at}
-use Rattle.rules.specs.Laws.Inverses.{length-forward}
-use Rattle.rules.specs.Laws.Kinds.{lines-good}
-use Rattle.rules.specs.Laws.Runs.{follow, later-done, run_in, run_none, run-next, run_step, run-through, there_and_back}
-use Rattle.rules.specs.Laws.Runs.{back-and-there, cut-forward, cut-inverse}
-use Rattle.rules.specs.Laws.Passes.{Tiles, columns-tile, rows-tile, passes-good}
-use Rattle.rules.specs.Laws.Along.{Holds, along-forward}
+use Rattle.rules.proofs.Laws.SoundFactors.{Sound, AllSound}
+use Rattle.rules.proofs.Laws.Lists.{length-fill, fill-at, inside-yes, inside-at}
+use Rattle.rules.proofs.Laws.Inverses.{length-forward}
+use Rattle.rules.proofs.Laws.Kinds.{lines-good}
+use Rattle.rules.proofs.Laws.Runs.{follow, later-done, run_in, run_none, run-next, run_step, run-through, there_and_back}
+use Rattle.rules.proofs.Laws.Runs.{back-and-there, cut-forward, cut-inverse}
+use Rattle.rules.proofs.Laws.Passes.{Tiles, columns-tile, rows-tile, passes-good}
+use Rattle.rules.proofs.Laws.Along.{Holds, along-forward}
 use Rattle.laws.specs.Stated.Passes.{line_of, EachLine, DownThenAlong, RowsFirst}
 use Rattle.laws.specs.Accepted.{Accepted, checked-accepted, two-read}
 use Rattle.laws.specs.Sound.{sheet-sound}

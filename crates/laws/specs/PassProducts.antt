@@ -13,11 +13,11 @@ use Rattle.rules.specs.Stages.{Stage, exact, exact_product}
 use Rattle.rules.specs.Shapes.{Lines, columns, rows, pass_stages}
 use Rattle.rules.specs.Matrices.{product}
 use Rattle.rules.specs.Calls.{two_pass, column_pass, row_pass}
-use Rattle.rules.specs.Laws.SoundFactors.{AllSound}
-use Rattle.rules.specs.Laws.AllowanceLaw.{length-exact}
-use Rattle.rules.specs.Laws.ExactProducts.{exact-of-line}
-use Rattle.rules.specs.Laws.Passes.{Tiles, columns-tile, rows-tile}
-use Rattle.rules.specs.Laws.PassProducts.{along-product, product-append}
+use Rattle.rules.proofs.Laws.SoundFactors.{AllSound}
+use Rattle.rules.proofs.Laws.AllowanceLaw.{length-exact}
+use Rattle.rules.proofs.Laws.ExactProducts.{exact-of-line}
+use Rattle.rules.proofs.Laws.Passes.{Tiles, columns-tile, rows-tile}
+use Rattle.rules.proofs.Laws.PassProducts.{along-product, product-append}
 use Rattle.laws.specs.Stated.Calls.{E}
 use Rattle.laws.specs.Stated.Passes.{line_of}
 use Rattle.laws.specs.Accepted.{two-read}

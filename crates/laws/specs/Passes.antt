@@ -11,8 +11,8 @@ use Rattle.rules.specs.Stages.{exact_scale}
 use Rattle.rules.specs.Shapes.{Lines, columns, rows, pass_stages}
 use Rattle.rules.specs.Answers.{accepted, ◌or_else◌, checked}
 use Rattle.rules.specs.Calls.{two_pass, order_checked, column_pass, row_pass}
-use Rattle.rules.specs.Laws.Runs.{all_append}
-use Rattle.rules.specs.Laws.Passes.{columns-tile, rows-tile, passes-good, passes-scale, scale-append}
+use Rattle.rules.proofs.Laws.Runs.{all_append}
+use Rattle.rules.proofs.Laws.Passes.{columns-tile, rows-tile, passes-good, passes-scale, scale-append}
 use Rattle.laws.specs.Stated.Calls.{D, GoodPlan, Promises}
 use Rattle.laws.specs.Accepted.{Accepted, accepted-order, accepted-read, checked-accepted, both-fine, two-read}
 use Rattle.laws.specs.Sound.{sheet-sound, factors-length}

@@ -15,10 +15,10 @@ use Rattle.rules.specs.Stages.{Stage, forward, undo, allow, Ran, done, beyond, r
 use Rattle.rules.specs.Answers.{accepted, ◌or_else◌}
 use Rattle.rules.specs.Calls.{Gives, reply, Plan, line, joint, sized, ran_answer, ran_memory, run_reply, forward_call, inverse_call}
 use Rattle.rules.specs.Calls.{allowance_call, rule_number, rule_of, rule_checked, under}
-use Rattle.rules.specs.Laws.Inverses.{length-forward, length-undo}
-use Rattle.rules.specs.Laws.AllowanceLaw.{length-allow}
-use Rattle.rules.specs.Laws.Runs.{run-through}
-use Rattle.rules.specs.Laws.Kinds.{lines-good, joints-good}
+use Rattle.rules.proofs.Laws.Inverses.{length-forward, length-undo}
+use Rattle.rules.proofs.Laws.AllowanceLaw.{length-allow}
+use Rattle.rules.proofs.Laws.Runs.{run-through}
+use Rattle.rules.proofs.Laws.Kinds.{lines-good, joints-good}
 use Rattle.laws.specs.Stated.Calls.{GoodPlan}
 use Rattle.laws.specs.Accepted.{accepted-order, accepted-read, both-fine, pair_read}
 use Rattle.laws.specs.Sound.{sheet-sound, sheets-match}

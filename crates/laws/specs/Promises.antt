@@ -12,10 +12,10 @@ use Rattle.rules.specs.Matrices.{product}
 use Rattle.rules.specs.Answers.{refused, ◌or_else◌, checked, pair_checked}
 use Rattle.rules.specs.Calls.{Reply, Gives, reply, read, write, write_table, Plan, line, joint, run_reply, forward_call, inverse_call}
 use Rattle.rules.specs.Calls.{allowance_call, rule_of, under, ruled}
-use Rattle.rules.specs.Laws.Runs.{there_and_back, back-and-there}
-use Rattle.rules.specs.Laws.AllowanceLaw as Near
-use Rattle.rules.specs.Laws.Cuts.{lines-scale, joints-scale}
-use Rattle.rules.specs.Laws.ExactProducts.{exact-of-line, exact-of-joint}
+use Rattle.rules.proofs.Laws.Runs.{there_and_back, back-and-there}
+use Rattle.rules.proofs.Laws.AllowanceLaw as Near
+use Rattle.rules.proofs.Laws.Cuts.{lines-scale, joints-scale}
+use Rattle.rules.proofs.Laws.ExactProducts.{exact-of-line, exact-of-joint}
 use Rattle.laws.specs.Stated.Calls.{E, D, GoodPlan, Promises, Keeps}
 use Rattle.laws.specs.Accepted.{accepted-read, pair_read}
 use Rattle.laws.specs.Sound.{sheet-sound, sheets-match, factors-length, counts-agree}

@@ -14,11 +14,11 @@ use Rattle.rules.specs.Factors.{Factor, has_entry, matrix}
 use Rattle.rules.specs.Stages.{R, inside, first_read, Stage, move, weigh, off, weighed, forward, Ran, later, run, run_forward}
 use Rattle.rules.specs.Shapes.{stage_of, line_stage, line_stages, joint_source, joint_sign, joint_weight, joint_stage, joint_stages}
 use Rattle.rules.specs.Shapes.{Lines, pass_source, pass_sign, pass_weight, pass_stage, pass_stages}
-use Rattle.rules.specs.Laws.SoundFactors.{AllMatch}
-use Rattle.rules.specs.Laws.Kinds.{by_kind, stage-moves, stage-weighs}
-use Rattle.rules.specs.Laws.Lists.{fill-same}
-use Rattle.rules.specs.Laws.Rectangles.{row_below, col-below}
-use Rattle.rules.specs.Laws.Passes.{Tiles}
+use Rattle.rules.proofs.Laws.SoundFactors.{AllMatch}
+use Rattle.rules.proofs.Laws.Kinds.{by_kind, stage-moves, stage-weighs}
+use Rattle.rules.proofs.Laws.Lists.{fill-same}
+use Rattle.rules.proofs.Laws.Rectangles.{row_below, col-below}
+use Rattle.rules.proofs.Laws.Passes.{Tiles}
 use Rattle.laws.specs.Cut.{SameFactor, AllSame}
 
 -- ---- lists of stages, and their runs

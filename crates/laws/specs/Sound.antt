@@ -13,13 +13,13 @@ use Rattle.rules.specs.Sheets.{kind_of, triangle}
 use Rattle.rules.specs.Factors.{Factor, numbers, signs_at, above, entries_before, factor_at, factors_from, factors, has_entry}
 use Rattle.rules.specs.Answers.{accepted, further, start, differ, clash, matching}
 use Rattle.rules.specs.GoodStages.{Permutes}
-use Rattle.rules.specs.Laws.SoundFactors.{Sound, AllSound, AllMatch}
+use Rattle.rules.proofs.Laws.SoundFactors.{Sound, AllSound, AllMatch}
 use Rattle.laws.specs.Tests.{apart, natural-eq, triangle-more}
 use Rattle.laws.specs.Readers.{Seen}
 use Rattle.laws.specs.First.{first-before, first-none}
 use Rattle.laws.specs.Accepted.{never, Stretch, sign-is, entry-is, place_is, place-new, entries_of, FactorRead}
 use Rattle.laws.specs.Accepted.{further-first, Each, each-rest, Accepted}
-use Rattle.rules.specs.Laws.Pigeon.{apart-permutes}
+use Rattle.rules.proofs.Laws.Pigeon.{apart-permutes}
 
 -- ---- each entry that a kind has stands among its entries
 -- the rows of an upper factor above row m, and those from row m on

@@ -7,7 +7,7 @@ use Rattle.rules.specs.Numbers.{unit, at, count}
 use Rattle.rules.specs.Answers.{accepted, refused, checked}
 use Rattle.rules.specs.Calls.{Gives, line, forward_call, inverse_call, allowance_call, rule_of, rule_checked, under, ruled}
 use Rattle.laws.specs.Stated.Cuts.{cut_front, cut_back, CutLaw}
-use Rattle.laws.specs.CutLaw.{line-cut, ruled-cut}
+use Rattle.laws.proofs.CutLaw.{line-cut, ruled-cut}
 use Rattle.laws.specs.Stated.Calls.{E, Accepts, Promises}
 use Rattle.laws.specs.Stated.Elements.{NoElement, Plain, Elements}
 use Rattle.laws.specs.Plans.{line-plan, under-plan}

@@ -5,7 +5,7 @@ use Rattle.whole.specs.Diff.{Within}
 use Rattle.rules.specs.declared.Rule.{Rule}
 use Rattle.rules.specs.Numbers.{most_order, bound, at}
 use Rattle.rules.specs.Stages.{fill}
-use Rattle.rules.specs.Laws.Lists.{fill-at}
+use Rattle.rules.proofs.Laws.Lists.{fill-at}
 use Rattle.factor.specs.declared.Layout.{Layout}
 use Rattle.factor.specs.SumBounds.{Bounded, bounded-set, beyond-there, Kept, kept-no, kept-yes}
 use Rattle.factor.specs.LayoutInSheet.{InSheet}

@@ -11,7 +11,7 @@ use Rattle.rules.specs.Numbers.{bound, at}
 use Rattle.rules.specs.Stages.{Stage, Ran, done, fill, inside, run_forward, run_inverse}
 use Rattle.rules.specs.Answers.{accepted}
 use Rattle.rules.specs.Calls.{Gives, reply, ran_answer, ran_memory}
-use Rattle.rules.specs.Laws.Lists.{inside-at}
+use Rattle.rules.proofs.Laws.Lists.{inside-at}
 use Rattle.laws.specs.AnswersInTurn.{ran_reply}
 use Rattle.factor.specs.declared.run.Task.{Task}
 use Rattle.factor.specs.declared.run.Task.TheVariants.{Forward, Inverse, Allowance}

@@ -9,7 +9,7 @@ use Rattle.rules.specs.declared.Rule.{Rule}
 use Rattle.rules.specs.Numbers.{most_order, unit, most_allowance, at}
 use Rattle.rules.specs.Sheets.{triangle}
 use Rattle.rules.specs.Factors.{above}
-use Rattle.rules.specs.Laws.Rounding.{rounding}
+use Rattle.rules.proofs.Laws.Rounding.{rounding}
 use Rattle.laws.specs.Tests.{triangle-twice}
 use Rattle.factor.specs.declared.Layout.{Layout}
 use Rattle.factor.specs.declared.Row.{Row}

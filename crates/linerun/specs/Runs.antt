@@ -7,8 +7,8 @@ use Rattle.rules.specs.Stages.{Stage, done, beyond}
 use Rattle.rules.specs.Shapes.{line_stage, line_stages}
 use Rattle.rules.specs.Answers.{further}
 use Rattle.rules.specs.GoodStages.{AllGood}
-use Rattle.rules.specs.Laws.Runs.{loop-start}
-use Rattle.rules.specs.Laws.Kinds.{lines-good}
+use Rattle.rules.proofs.Laws.Runs.{loop-start}
+use Rattle.rules.proofs.Laws.Kinds.{lines-good}
 use Rattle.laws.specs.Accepted.{Accepted}
 use Rattle.laws.specs.AnswersInTurn.{ran_reply}
 use Rattle.laws.specs.Sound.{sheet-sound}

@@ -13,9 +13,9 @@ use Rattle.rules.specs.declared.Rule.{Rule}
 use Rattle.rules.specs.Stages.{Stage, move, weigh, R, ceiling, share, fill, off, weighed, forward, undo, allow}
 use Rattle.rules.specs.Shapes.{order, in_row, line_stage}
 use Rattle.rules.specs.GoodStages.{Good}
-use Rattle.rules.specs.Laws.SoundFactors.{good-recovers}
-use Rattle.rules.specs.Laws.Kinds.{line-good, stage-moves, stage-weighs}
-use Rattle.rules.specs.Laws.Lists.{fill-same, put_same}
+use Rattle.rules.proofs.Laws.SoundFactors.{good-recovers}
+use Rattle.rules.proofs.Laws.Kinds.{line-good, stage-moves, stage-weighs}
+use Rattle.rules.proofs.Laws.Lists.{fill-same, put_same}
 use Rattle.laws.specs.Accepted.{FactorRead}
 use Rattle.laws.specs.Sound.{factor-sound}
 use Rattle.factor.specs.declared.Layout.{Layout}

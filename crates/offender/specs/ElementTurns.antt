@@ -7,7 +7,7 @@ use Rattle.rules.specs.Numbers.{count}
 use Rattle.rules.specs.Sheets.{kind_of}
 use Rattle.rules.specs.Factors.{Factor, factor_at}
 use Rattle.rules.specs.Shapes.{turn, in_row, joint_shared, pass_turn}
-use Rattle.rules.specs.Laws.Kinds.{line-ranked}
+use Rattle.rules.proofs.Laws.Kinds.{line-ranked}
 use Rattle.laws.specs.Accepted.{FactorRead}
 use Rattle.factor.specs.declared.Layout.{Layout}
 use Rattle.factor.specs.LayoutInSheet.{Paired}

@@ -12,7 +12,7 @@ use Rattle.rules.specs.declared.Kind.TheVariants.{Permutation, Lower, Upper, Sin
 use Rattle.rules.specs.Numbers.{most_order, most_entry, unit, at, count}
 use Rattle.rules.specs.Sheets.{kind_of}
 use Rattle.rules.specs.Factors.{Factor, entries_before, factor_at, has_entry, matrix}
-use Rattle.rules.specs.Laws.SoundFactors.{Sound}
+use Rattle.rules.proofs.Laws.SoundFactors.{Sound}
 use Rattle.laws.specs.Accepted.{entries_of}
 use Rattle.laws.specs.Sound.{factor-sound, sign-seen, entry_seen, entry-inside}
 use Rattle.laws.specs.Tests.{triangle-twice}

@@ -9,10 +9,10 @@ use Rattle.rules.specs.Factors.{Factor, factor_at}
 use Rattle.rules.specs.Stages.{Stage, move, weigh, up_to, forward, undo, recovery}
 use Rattle.rules.specs.Shapes.{by_turn, order, joint_stage, pass_sign, pass_weight, pass_turn, pass_stage}
 use Rattle.rules.specs.GoodStages.{Good, Recovers}
-use Rattle.rules.specs.Laws.SoundFactors.{good-recovers}
-use Rattle.rules.specs.Laws.Kinds.{joint-good, stage-moves, stage-weighs}
-use Rattle.rules.specs.Laws.Offenders.{read_below, none-beyond}
-use Rattle.rules.specs.Laws.Passes.{pass-good}
+use Rattle.rules.proofs.Laws.SoundFactors.{good-recovers}
+use Rattle.rules.proofs.Laws.Kinds.{joint-good, stage-moves, stage-weighs}
+use Rattle.rules.proofs.Laws.Offenders.{read_below, none-beyond}
+use Rattle.rules.proofs.Laws.Passes.{pass-good}
 use Rattle.laws.specs.Tests.{apart}
 use Rattle.laws.specs.Sound.{factor-sound}
 use Rattle.factor.specs.declared.run.Task.{Task}

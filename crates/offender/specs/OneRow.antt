@@ -14,10 +14,10 @@ use Rattle.rules.specs.Factors.{Factor, matrix}
 use Rattle.rules.specs.Stages.{those, offender, Stage, weigh, R, off, weighed, recover, forward, undo, recovery, first_read}
 use Rattle.rules.specs.Shapes.{by_turn, turn, in_row, order, line_stage, rows, pass_sign, pass_weight, pass_turn, pass_stage}
 use Rattle.rules.specs.GoodStages.{has, Good}
-use Rattle.rules.specs.Laws.SoundFactors.{Sound, good-recovers}
-use Rattle.rules.specs.Laws.Kinds.{line-good, by_kind, stage-moves, stage-weighs}
-use Rattle.rules.specs.Laws.Lists.{fill-same}
-use Rattle.rules.specs.Laws.Membership.{has_first, has_more}
+use Rattle.rules.proofs.Laws.SoundFactors.{Sound, good-recovers}
+use Rattle.rules.proofs.Laws.Kinds.{line-good, by_kind, stage-moves, stage-weighs}
+use Rattle.rules.proofs.Laws.Lists.{fill-same}
+use Rattle.rules.proofs.Laws.Membership.{has_first, has_more}
 use Rattle.factor.specs.declared.run.Task.{Task}
 use Rattle.factor.specs.declared.run.Task.TheVariants.{Forward, Inverse, Allowance}
 use Rattle.factor.specs.SumBounds.{Bounded}

@@ -12,7 +12,7 @@ use Rattle.rules.specs.Numbers.{most_cells, most_entry, unit, unit², bound, at}
 use Rattle.rules.specs.Factors.{factor_at}
 use Rattle.rules.specs.Stages.{R, off, weighed}
 use Rattle.rules.specs.Shapes.{joint_sign, joint_weight, pass_sign, pass_weight}
-use Rattle.rules.specs.Laws.Rectangles.{row_below, col-below}
+use Rattle.rules.proofs.Laws.Rectangles.{row_below, col-below}
 use Rattle.factor.specs.PassLines.{lines-many, lines_long, tiles-by}
 use Rattle.factor.specs.Rounding.{rounded-within}
 use Rattle.offender.specs.declared.weights.Shape.{Shape}

@@ -15,10 +15,10 @@ use Rattle.rules.specs.Numbers.{bound, at}
 use Rattle.rules.specs.Stages.{R, those, up_to, offender, off, weighed, fill, recover, first_read}
 use Rattle.rules.specs.Shapes.{by_turn}
 use Rattle.rules.specs.GoodStages.{has, InOrder, end, next}
-use Rattle.rules.specs.Laws.Membership.{has_first, has_more}
-use Rattle.rules.specs.Laws.Lists.{fill-at, set_at}
-use Rattle.rules.specs.Laws.Inverses.{recover-other}
-use Rattle.rules.specs.Laws.Offenders.{read_below, none-beyond, first_read_lem}
+use Rattle.rules.proofs.Laws.Membership.{has_first, has_more}
+use Rattle.rules.proofs.Laws.Lists.{fill-at, set_at}
+use Rattle.rules.proofs.Laws.Inverses.{recover-other}
+use Rattle.rules.proofs.Laws.Offenders.{read_below, none-beyond, first_read_lem}
 use Rattle.laws.specs.Tests.{apart}
 use Rattle.factor.specs.SumBounds.{Bounded, bounded-set, Kept, kept-no, kept-yes}
 

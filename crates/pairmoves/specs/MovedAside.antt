@@ -8,8 +8,8 @@ use Rattle.rules.specs.Numbers.{at, count}
 use Rattle.rules.specs.Sheets.{kind_of}
 use Rattle.rules.specs.Stages.{fill}
 use Rattle.rules.specs.GoodStages.{Permutes}
-use Rattle.rules.specs.Laws.Lists.{length-fill, fill-at, fill-past}
-use Rattle.rules.specs.Laws.Rectangles.{row_below, col-below, element-below, row-of}
+use Rattle.rules.proofs.Laws.Lists.{length-fill, fill-at, fill-past}
+use Rattle.rules.proofs.Laws.Rectangles.{row_below, col-below, element-below, row-of}
 use Rattle.laws.specs.Accepted.{FactorRead, Counts, place-counts}
 use Rattle.laws.specs.Sound.{places-permute}
 use Rattle.factor.specs.InPlace.{apart}

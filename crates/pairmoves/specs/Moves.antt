@@ -5,8 +5,8 @@ use Rattle.std.proofs.Math.Decide.{ℕ_discrete}
 use Rattle.std.proofs.Math.Nat as NatL
 use Rattle.rules.specs.Numbers.{most_cells, at}
 use Rattle.rules.specs.GoodStages.{Permutes}
-use Rattle.rules.specs.Laws.Lists.{same-list}
-use Rattle.rules.specs.Laws.Rectangles.{row_below, col-below, element-below, row-of, col-of, pair-permutes}
+use Rattle.rules.proofs.Laws.Lists.{same-list}
+use Rattle.rules.proofs.Laws.Rectangles.{row_below, col-below, element-below, row-of, col-of, pair-permutes}
 use Rattle.factor.specs.declared.Layout.{Layout}
 use Rattle.factor.specs.LayoutInSheet.{Moves, permutation_at}
 use Rattle.factor.specs.InPlace.{apart}

@@ -6,8 +6,8 @@ use Rattle.std.proofs.lemmas.List.{length-replicate}
 use Rattle.rules.specs.Numbers.{most_order, most_cells, at}
 use Rattle.rules.specs.Stages.{fill}
 use Rattle.rules.specs.Shapes.{Lines, columns, rows}
-use Rattle.rules.specs.Laws.Lists.{length-fill, fill-at}
-use Rattle.rules.specs.Laws.Passes.{Tiles, columns-tile, rows-tile}
+use Rattle.rules.proofs.Laws.Lists.{length-fill, fill-at}
+use Rattle.rules.proofs.Laws.Passes.{Tiles, columns-tile, rows-tile}
 use Rattle.laws.specs.Accepted.{Accepted, accepted-order}
 use Rattle.factor.specs.PassLines.{lines_by, lines-many, lines_long}
 use Rattle.joint.specs.Sums.{zero-at}

@@ -7,8 +7,8 @@ use Rattle.rules.specs.declared.Rule.{Rule}
 use Rattle.rules.specs.Numbers.{most_order, most_cells, bound, count}
 use Rattle.rules.specs.Stages.{Stage, Ran, done, beyond, later, run, inside, run_forward, run_inverse, run_allowance}
 use Rattle.rules.specs.Calls.{Gives, reply, ran_answer, ran_memory}
-use Rattle.rules.specs.Laws.Runs.{follow, cut}
-use Rattle.rules.specs.Laws.Passes.{passes_count}
+use Rattle.rules.proofs.Laws.Runs.{follow, cut}
+use Rattle.rules.proofs.Laws.Passes.{passes_count}
 use Rattle.laws.specs.Tests.{apart}
 use Rattle.laws.specs.Accepted.{Accepted, accepted-order}
 use Rattle.laws.specs.AnswersInTurn.{ran_reply}

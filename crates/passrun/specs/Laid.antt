@@ -9,13 +9,13 @@ use Rattle.rules.specs.Numbers.{most_order, at}
 use Rattle.rules.specs.Factors.{Factor}
 use Rattle.rules.specs.Stages.{fill, inside, forward, undo, allow}
 use Rattle.rules.specs.Shapes.{line_stage, Lines, pass_stage}
-use Rattle.rules.specs.Laws.SoundFactors.{Sound}
-use Rattle.rules.specs.Laws.Lists.{length-fill, fill-at, fill-past, inside-yes, inside-at}
-use Rattle.rules.specs.Laws.Membership.{true-false}
-use Rattle.rules.specs.Laws.Inverses.{length-forward, length-undo}
-use Rattle.rules.specs.Laws.AllowanceLaw.{length-allow}
-use Rattle.rules.specs.Laws.Passes.{Tiles}
-use Rattle.rules.specs.Laws.Along.{Holds, along-forward, along-allow, along-undo}
+use Rattle.rules.proofs.Laws.SoundFactors.{Sound}
+use Rattle.rules.proofs.Laws.Lists.{length-fill, fill-at, fill-past, inside-yes, inside-at}
+use Rattle.rules.proofs.Laws.Membership.{true-false}
+use Rattle.rules.proofs.Laws.Inverses.{length-forward, length-undo}
+use Rattle.rules.proofs.Laws.AllowanceLaw.{length-allow}
+use Rattle.rules.proofs.Laws.Passes.{Tiles}
+use Rattle.rules.proofs.Laws.Along.{Holds, along-forward, along-allow, along-undo}
 use Rattle.factor.specs.declared.run.Task.{Task}
 use Rattle.factor.specs.declared.run.Task.TheVariants.{Forward, Inverse, Allowance}
 use Rattle.factor.specs.declared.run.Run.{Run}

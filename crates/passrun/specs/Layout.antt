@@ -10,7 +10,7 @@ use native.Mathlib.Omega.{arith}
 use Rattle.std.proofs.Math.ListN.{length-set}
 use Rattle.whole.specs.Diff.{Within}
 use Rattle.rules.specs.Numbers.{most_order, most_cells, at}
-use Rattle.rules.specs.Laws.Lists.{set_at, set_other}
+use Rattle.rules.proofs.Laws.Lists.{set_at, set_other}
 use Rattle.factor.specs.SumBounds.{Bounded, bounded-set}
 use Rattle.passstage.specs.LaneLaws.{scattered-bounded}
 use Rattle.factor.specs.MovedInPlace.{scattered, length-scattered, scattered-at, scattered-other, scattered-same}

@@ -9,7 +9,7 @@ use Rattle.rules.specs.Factors.{factor_at}
 use Rattle.rules.specs.Stages.{done, beyond, inside}
 use Rattle.rules.specs.Shapes.{Lines, pass_stage}
 use Rattle.rules.specs.Answers.{start}
-use Rattle.rules.specs.Laws.Lists.{inside-at}
+use Rattle.rules.proofs.Laws.Lists.{inside-at}
 use Rattle.factor.specs.declared.run.Task.{Task}
 use Rattle.factor.specs.declared.run.Task.TheVariants.{Forward, Inverse, Allowance}
 use Rattle.factor.specs.declared.run.Run.{Run}

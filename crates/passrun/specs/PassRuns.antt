@@ -6,7 +6,7 @@ use Rattle.rules.specs.Factors.{factors, factor_at}
 use Rattle.rules.specs.Stages.{Stage, Ran, done, beyond}
 use Rattle.rules.specs.Shapes.{Lines, pass_stage, pass_stages}
 use Rattle.rules.specs.Answers.{start}
-use Rattle.rules.specs.Laws.Runs.{loop-start}
+use Rattle.rules.proofs.Laws.Runs.{loop-start}
 use Rattle.laws.specs.Accepted.{Accepted}
 use Rattle.laws.specs.Sound.{factor-sound}
 use Rattle.factor.specs.declared.run.Run.{Run}

@@ -4,7 +4,7 @@ use Rattle.std.proofs.Common.{sym, ap, ◌∙◌, arith}
 use Rattle.laws.specs.Tests.{apart}
 use Rattle.rules.specs.Numbers.{most_order, most_cells}
 use Rattle.rules.specs.Stages.{fill}
-use Rattle.rules.specs.Laws.Lists.{fill-at}
+use Rattle.rules.proofs.Laws.Lists.{fill-at}
 use Rattle.factor.specs.SumBounds.{Bounded, beyond-there}
 use Rattle.factor.specs.MovedInPlace.{scattered, length-scattered}
 use Rattle.passstage.specs.Lanes.{lane}

@@ -7,7 +7,7 @@ use Rattle.rules.specs.Numbers.{most_order, most_cells, at}
 use Rattle.laws.specs.Tests.{apart}
 use Rattle.rules.specs.Stages.{inside}
 use Rattle.rules.specs.GoodStages.{Permutes}
-use Rattle.rules.specs.Laws.Lists.{length-fill, fill-at, fill-same, set_at, set_other}
+use Rattle.rules.proofs.Laws.Lists.{length-fill, fill-at, fill-same, set_at, set_other}
 use Rattle.factor.specs.SumBounds.{Bounded, bounded-set, bounded-fill}
 use Rattle.factor.specs.MovedInPlace.{scattered, moved_by, moved_line, to_of, from_of, length-scattered, scattered-at}
 use Rattle.factor.specs.MovedInPlace.{scattered-other, scattered-same, moved-scattered, to-permutes, from-permutes}

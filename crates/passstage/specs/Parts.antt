@@ -18,7 +18,7 @@ use Rattle.whole.specs.Stated.{sum}
 use Rattle.whole.specs.Sum.{sum-cong, sum-add, sum-scale, sum-within}
 use Rattle.rules.specs.Numbers.{most_order, most_cells, most_entry, unit, bound, at}
 use Rattle.rules.specs.Stages.{R}
-use Rattle.rules.specs.Laws.Lists.{set_at, set_other}
+use Rattle.rules.proofs.Laws.Lists.{set_at, set_other}
 use Rattle.factor.specs.Rounding.{rule_by, lift_by, rounds-as}
 use Rattle.factor.specs.SumBounds.{Bounded}
 use Rattle.joint.specs.Sums.{nothing, zero-at}

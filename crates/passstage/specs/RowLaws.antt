@@ -19,7 +19,7 @@ use Rattle.rules.specs.declared.Rule.{Rule}
 use Rattle.rules.specs.Numbers.{most_order, most_cells, unit, bound, at}
 use Rattle.rules.specs.Stages.{fill, R}
 use Rattle.rules.specs.GoodStages.{Permutes}
-use Rattle.rules.specs.Laws.Rounding.{rounds-nothing}
+use Rattle.rules.proofs.Laws.Rounding.{rounds-nothing}
 use Rattle.factor.specs.declared.Layout.{Layout}
 use Rattle.factor.specs.declared.Row.{Row}
 use Rattle.factor.specs.Layouts.{row_of, along}

@@ -7,7 +7,7 @@ use Rattle.rules.specs.Numbers.{unit, unit², at, count}
 use Rattle.rules.specs.Answers.{accepted, refused, pair_checked}
 use Rattle.rules.specs.Calls.{Gives, joint, forward_call, inverse_call, allowance_call, rule_of, rule_checked, under, ruled}
 use Rattle.laws.specs.Stated.Cuts.{cut_front, cut_back, CutLaw}
-use Rattle.laws.specs.CutLaw.{joint-cut, ruled-cut}
+use Rattle.laws.proofs.CutLaw.{joint-cut, ruled-cut}
 use Rattle.laws.specs.Stated.Calls.{E, D, Accepts, Promises}
 use Rattle.laws.specs.Stated.Elements.{NoElement, Plain, Elements}
 use Rattle.laws.specs.Plans.{joint-plan, under-plan}

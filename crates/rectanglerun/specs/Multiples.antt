@@ -11,8 +11,8 @@ use Rattle.rules.specs.Numbers.{unit, unit²}
 use Rattle.rules.specs.Factors.{Factor, matrix}
 use Rattle.rules.specs.Stages.{off, multiples}
 use Rattle.rules.specs.Shapes.{joint_weight}
-use Rattle.rules.specs.Laws.Lists.{off_self, off-other, multiples-yes, multiples-at}
-use Rattle.rules.specs.Laws.Rectangles.{row_below, col-below, element-below, row-of, col-of}
+use Rattle.rules.proofs.Laws.Lists.{off_self, off-other, multiples-yes, multiples-at}
+use Rattle.rules.proofs.Laws.Rectangles.{row_below, col-below, element-below, row-of, col-of}
 
 -- ---- products
 times-unit : (x y : ℕ) → y ≡ unit → x * y % unit² ≡ 0 → x % unit ≡ 0

@@ -5,7 +5,7 @@ use Rattle.std.proofs.Common.{ap, ◌∙◌, mul-le-mul, arith}
 use Rattle.rules.specs.declared.Kind.TheVariants.{Permutation}
 use Rattle.rules.specs.declared.Rule.{Rule}
 use Rattle.rules.specs.Numbers.{most_cells, bound}
-use Rattle.rules.specs.Laws.Membership.{true-false}
+use Rattle.rules.proofs.Laws.Membership.{true-false}
 use Rattle.factor.specs.declared.Layout.{Layout}
 use Rattle.factor.specs.declared.run.Task.{Task}
 use Rattle.factor.specs.Tasks.{limit_of}

@@ -11,9 +11,9 @@ use Rattle.rules.specs.Factors.{factor_at, factors_from, factors}
 use Rattle.rules.specs.Stages.{Stage, Ran}
 use Rattle.rules.specs.Shapes.{joint_stage, joint_stages}
 use Rattle.rules.specs.Answers.{further, start, matching, pair_checked}
-use Rattle.rules.specs.Laws.Cuts.{joints-append}
+use Rattle.rules.proofs.Laws.Cuts.{joints-append}
 use Rattle.rules.specs.GoodStages.{AllGood}
-use Rattle.rules.specs.Laws.Kinds.{joints-good}
+use Rattle.rules.proofs.Laws.Kinds.{joints-good}
 use Rattle.laws.specs.Accepted.{Accepted, accepted-order, further-next, pair_read}
 use Rattle.laws.specs.Sound.{factors-split, factors-length, counts-agree, kinds-agree, sheets-match}
 use Rattle.factor.specs.declared.run.Task.{Task}

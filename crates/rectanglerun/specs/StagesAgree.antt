@@ -18,10 +18,10 @@ use Rattle.rules.specs.declared.Rule.{Rule}
 use Rattle.rules.specs.Stages.{Stage, move, weigh, R, ceiling, share, off, weighed, multiples, forward, undo, allow}
 use Rattle.rules.specs.Shapes.{order, joint_source, joint_sign, joint_weight, joint_shared, joint_stage}
 use Rattle.rules.specs.GoodStages.{Permutes, Good}
-use Rattle.rules.specs.Laws.SoundFactors.{good-recovers}
-use Rattle.rules.specs.Laws.Kinds.{joint-good, joint-signs, stage-moves, stage-weighs}
-use Rattle.rules.specs.Laws.Lists.{fill-at, fill-same, put_same}
-use Rattle.rules.specs.Laws.Rectangles.{row_below, col-below, row-of, col-of, joint-sum, joint-abs-sum}
+use Rattle.rules.proofs.Laws.SoundFactors.{good-recovers}
+use Rattle.rules.proofs.Laws.Kinds.{joint-good, joint-signs, stage-moves, stage-weighs}
+use Rattle.rules.proofs.Laws.Lists.{fill-at, fill-same, put_same}
+use Rattle.rules.proofs.Laws.Rectangles.{row_below, col-below, row-of, col-of, joint-sum, joint-abs-sum}
 use Rattle.laws.specs.Accepted.{FactorRead}
 use Rattle.laws.specs.Sound.{factor-sound}
 use Rattle.factor.specs.declared.Layout.{Layout}

@@ -8,8 +8,8 @@ use Rattle.rules.specs.Sheets.{kind_of}
 use Rattle.rules.specs.Factors.{signs_at}
 use Rattle.rules.specs.Stages.{Ran, done, beyond, fill, inside}
 use Rattle.rules.specs.Answers.{start}
-use Rattle.rules.specs.Laws.Lists.{length-fill, fill-at, fill-past}
-use Rattle.rules.specs.Laws.Runs.{loop-start}
+use Rattle.rules.proofs.Laws.Lists.{length-fill, fill-at, fill-past}
+use Rattle.rules.proofs.Laws.Runs.{loop-start}
 use Rattle.factor.specs.declared.run.Task.{Task}
 use Rattle.factor.specs.declared.run.Task.TheVariants.{Forward, Inverse, Allowance}
 use Rattle.factor.specs.declared.run.Run.{Run}

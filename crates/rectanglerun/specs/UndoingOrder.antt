@@ -12,8 +12,8 @@ use Rattle.rules.specs.declared.Kind.TheVariants.{Lower, Upper, Single}
 use Rattle.rules.specs.Numbers.{at}
 use Rattle.rules.specs.Shapes.{order}
 use Rattle.rules.specs.GoodStages.{Permutes}
-use Rattle.rules.specs.Laws.SoundFactors.{same-permutes}
-use Rattle.rules.specs.Laws.Rectangles.{row_below, col-below, row-of, col-of, pair-permutes}
+use Rattle.rules.proofs.Laws.SoundFactors.{same-permutes}
+use Rattle.rules.proofs.Laws.Rectangles.{row_below, col-below, row-of, col-of, pair-permutes}
 use Rattle.factor.specs.declared.Layout.{Layout}
 use Rattle.factor.specs.declared.run.Task.{Task}
 use Rattle.factor.specs.declared.run.Task.TheVariants.{Forward, Inverse, Allowance}

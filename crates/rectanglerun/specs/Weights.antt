@@ -14,8 +14,8 @@ use Rattle.rules.specs.Numbers.{unit, most_order, at, count}
 use Rattle.rules.specs.Sheets.{kind_of}
 use Rattle.rules.specs.Factors.{factor_at, matrix}
 use Rattle.rules.specs.Stages.{fill, off, weighed}
-use Rattle.rules.specs.Laws.Lists.{fill-at}
-use Rattle.rules.specs.Laws.Rectangles.{off-sum, diagonal-weight}
+use Rattle.rules.proofs.Laws.Lists.{fill-at}
+use Rattle.rules.proofs.Laws.Rectangles.{off-sum, diagonal-weight}
 use Rattle.laws.specs.Accepted.{FactorRead}
 use Rattle.laws.specs.Sound.{factor-sound}
 use Rattle.factor.specs.declared.Row.{Row}

@@ -12,4 +12,3 @@ pub mod GoodStages
 pub mod Figures
 pub mod Refusals
 pub mod Cosine
-pub mod Laws

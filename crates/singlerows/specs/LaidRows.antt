@@ -15,7 +15,7 @@ use Rattle.rules.specs.declared.Kind.TheVariants.{Single}
 use Rattle.rules.specs.declared.Rule.{Rule}
 use Rattle.rules.specs.Numbers.{most_order, most_cells, most_entry, bound, at}
 use Rattle.rules.specs.Stages.{fill}
-use Rattle.rules.specs.Laws.Lists.{fill-at}
+use Rattle.rules.proofs.Laws.Lists.{fill-at}
 use Rattle.factor.specs.declared.Layout.{Layout}
 use Rattle.factor.specs.Layouts.{row, row_by, row_of}
 use Rattle.factor.specs.LayoutInSheet.{InSheet}

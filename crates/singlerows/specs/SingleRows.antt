@@ -13,8 +13,8 @@ use Rattle.rules.specs.declared.Kind.TheVariants.{Single}
 use Rattle.rules.specs.declared.Rule.{Rule}
 use Rattle.rules.specs.Numbers.{most_order, most_cells, most_entry, unit, unit², bound, at}
 use Rattle.rules.specs.Stages.{R}
-use Rattle.rules.specs.Laws.Lists.{fill-at}
-use Rattle.rules.specs.Laws.Rounding.{rounds-scaled, rounds-nothing}
+use Rattle.rules.proofs.Laws.Lists.{fill-at}
+use Rattle.rules.proofs.Laws.Rounding.{rounds-scaled, rounds-nothing}
 use Rattle.factor.specs.declared.Layout.{Layout}
 use Rattle.factor.specs.declared.Row.{Row}
 use Rattle.factor.specs.Layouts.{row, row_by, row_of}

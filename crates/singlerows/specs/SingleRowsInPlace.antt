@@ -18,8 +18,8 @@ use Rattle.rules.specs.declared.Kind.TheVariants.{Single}
 use Rattle.rules.specs.declared.Rule.{Rule}
 use Rattle.rules.specs.Numbers.{at}
 use Rattle.rules.specs.GoodStages.{Permutes}
-use Rattle.rules.specs.Laws.Membership.{true-false}
-use Rattle.rules.specs.Laws.Lists.{set_at, set_other, same-list}
+use Rattle.rules.proofs.Laws.Membership.{true-false}
+use Rattle.rules.proofs.Laws.Lists.{set_at, set_other, same-list}
 use Rattle.factor.specs.declared.Layout.{Layout}
 use Rattle.factor.specs.Layouts.{row_of}
 use Rattle.factor.specs.LayoutInSheet.{InSheet}

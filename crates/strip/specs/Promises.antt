@@ -9,7 +9,7 @@ use Rattle.rules.specs.Answers.{accepted, refused, checked, pair_checked}
 use Rattle.rules.specs.Calls.{line, joint, forward_call, inverse_call, allowance_call, rule_of, rule_checked, under, ruled}
 use Rattle.rules.specs.Strips.{GivesStrip, block, forward_strip, inverse_strip}
 use Rattle.laws.specs.Stated.Cuts.{cut, cut_front, cut_back}
-use Rattle.laws.specs.CutLaw.{line-cut, joint-cut, ruled-cut}
+use Rattle.laws.proofs.CutLaw.{line-cut, joint-cut, ruled-cut}
 use Rattle.laws.specs.Accepted.{both-fine}
 use Rattle.laws.specs.Plans.{under-plan, line-plan, joint-plan}
 use Rattle.laws.specs.Stated.Calls.{E, D, Accepts}

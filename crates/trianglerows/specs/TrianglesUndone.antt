@@ -11,7 +11,7 @@ use Rattle.rules.specs.declared.Rule.{Rule}
 use Rattle.rules.specs.declared.Kind.TheVariants.{Lower, Upper}
 use Rattle.rules.specs.Factors.{above}
 use Rattle.rules.specs.Numbers.{most_order, most_cells, unit, bound, at}
-use Rattle.rules.specs.Laws.Lists.{length-fill}
+use Rattle.rules.proofs.Laws.Lists.{length-fill}
 use Rattle.factor.specs.declared.Layout.{Layout}
 use Rattle.factor.specs.SumBounds.{Bounded, bounded-le, bounded-set}
 use Rattle.factor.specs.LayoutInSheet.{InSheet, row-wide}

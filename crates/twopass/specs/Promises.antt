@@ -19,9 +19,9 @@ use Rattle.laws.specs.Elements.{plan-elements, forward-plain, inverse-plain, all
 use Rattle.laws.specs.Elements.{two-pass-none, column-none, row-none}
 use Rattle.laws.specs.Promises.{ruled-promises, forward-none, inverse-none, allowance-none, one_answer}
 use Rattle.laws.specs.Returned.{returned-back, returned-there, returned-near, returned-difference}
-use Rattle.laws.specs.CutLaw.{ruled-cut}
+use Rattle.laws.proofs.CutLaw.{ruled-cut}
 use Rattle.laws.specs.Passes.{two-pass-plan, column-plan, row-plan, two-pass-scale}
-use Rattle.laws.specs.PassCuts as Cuts
+use Rattle.laws.proofs.PassCuts as Cuts
 use Rattle.laws.specs.PassLines.{two-pass-lines, two-pass-lines-undone, column-lines, column-lines-undone, row-lines}
 use Rattle.laws.specs.PassLines.{row-lines-undone}
 

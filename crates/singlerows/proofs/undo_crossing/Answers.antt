@@ -9,7 +9,7 @@ use Rattle.joint.specs.Elements.{sign_at, diagonal_of, undone_of, diagonal-small
 use Rattle.joint.specs.RecoveredSums.{RecoveredSums, recovered-sums-start, recovered-sums-next, recovered-sums-small, recovered-sums-undo}
 use Rattle.joint.specs.RowsInPlace.{undone-here, in_block}
 use Rattle.joint.specs.Sums.{rest_sums, most_column, rest-sums-small}
-use Rattle.rules.specs.Laws.Lists.{length-fill}
+use Rattle.rules.proofs.Laws.Lists.{length-fill}
 use Rattle.rules.specs.Numbers.{most_entry, bound, at}
 use Rattle.whole.specs.Diff.{Within}
 use Rattle.whole.specs.Machine.{fits, reads, back, within-le, within-+, within-*}

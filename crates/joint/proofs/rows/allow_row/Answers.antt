@@ -5,7 +5,7 @@ use Rattle.factor.specs.InPlace.{in_place, length-in-place}
 use Rattle.factor.specs.SumBounds.{bounded-set, test-no, test-yes}
 use Rattle.joint.specs.Allowances.{allowed_at, allowed_of, magnitude-sums-small}
 use Rattle.joint.specs.RowsInPlace.{steps-same, row-ahead, allowed-here}
-use Rattle.rules.specs.Laws.Rectangles.{col-of}
+use Rattle.rules.proofs.Laws.Rectangles.{col-of}
 use Rattle.rules.specs.Numbers.{most_allowance, at}
 use Rattle.whole.specs.Diff.{Within}
 use Rattle.whole.specs.Machine.{reads, back}

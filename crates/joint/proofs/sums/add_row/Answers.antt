@@ -1,6 +1,6 @@
 -- The first c sums have their number more, the others are as they were.
 use Rattle.std.proofs.Common.{List, ◌≡◌, ap, ◌∙◌, ◌+◌, le_refl, add-one, arith, ℤ, to_z-of_z, w32, w64, to_z, of_z}
-use Rattle.rules.specs.Laws.Lists.{fill-past}
+use Rattle.rules.proofs.Laws.Lists.{fill-past}
 use Rattle.rules.specs.Numbers.{at}
 use Rattle.rules.specs.Stages.{fill}
 use Rattle.whole.specs.Machine.{fits, reads, back, within-+, within-*}

@@ -1,7 +1,7 @@
 -- All columns at once, the own terms first, or by fours: the sums start from nothing.
 use Rattle.std.proofs.Common.{◌∙◌, arith, pos, replicate, to_z-of_z}
 use Rattle.joint.specs.Sums.{side-adding, own-small, added_twice}
-use Rattle.rules.specs.Laws.Lists.{length-fill}
+use Rattle.rules.proofs.Laws.Lists.{length-fill}
 use Rattle.joint.proofs.sums.side_sums_with.Goals as goal
 
 pub add_rows-requires : goal.add_rows-requires

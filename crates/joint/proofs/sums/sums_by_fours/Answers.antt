@@ -2,7 +2,7 @@
 use Rattle.std.proofs.Common.{refl, ◌∙◌, ◌+◌, ◌*◌, ◌≤◌, arith, pos, replicate}
 use native.Mathlib.Nat.{div-add-mod}
 use Rattle.joint.specs.Sums.{Adding, rows_sum, side-four, nothing, four-rows, four-more, adding-all-small}
-use Rattle.rules.specs.Laws.Lists.{fill-same}
+use Rattle.rules.proofs.Laws.Lists.{fill-same}
 use Rattle.joint.proofs.sums.sums_by_fours.Goals as goal
 use Rattle.joint.proofs.sums.sums_by_fours.Goals.{In-loop-g}
 

@@ -2,7 +2,7 @@
 use Rattle.std.proofs.Common.{refl, ◌∙◌, ◌+◌, ◌*◌, ◌≤◌, arith, pos, ◌*ℤ◌, replicate, to_z-of_z}
 use native.Mathlib.Nat.{div-add-mod}
 use Rattle.joint.specs.Sums.{Adding, added, side_with, side-four, own-small, four-with, four-more, adding-all-small}
-use Rattle.rules.specs.Laws.Lists.{length-fill}
+use Rattle.rules.proofs.Laws.Lists.{length-fill}
 use Rattle.rules.specs.Numbers.{at}
 use Rattle.joint.proofs.sums.sums_by_fours_with.Goals as goal
 use Rattle.joint.proofs.sums.sums_by_fours_with.Goals.{In-loop-g}

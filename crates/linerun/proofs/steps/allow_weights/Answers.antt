@@ -3,7 +3,7 @@ use Rattle.std.proofs.Common.{rules, ◌≡◌, ap, ◌∙◌, ℕ, arith, ℤ, 
 use Rattle.factor.specs.Steps.{step-stops, step-goes}
 use Rattle.factor.specs.SumBounds.{beyond-there, test-no}
 use Rattle.linerun.specs.Steps.{allowed_at}
-use Rattle.rules.specs.Laws.Lists.{fill-at}
+use Rattle.rules.proofs.Laws.Lists.{fill-at}
 use Rattle.rules.specs.Numbers.{most_allowance}
 use Rattle.rules.specs.Stages.{fill}
 use Rattle.whole.specs.Machine.{back}

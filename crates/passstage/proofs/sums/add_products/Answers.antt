@@ -1,7 +1,7 @@
 -- The first c sums of either row have their product, the others are as they were (`raised-next`).
 use Rattle.std.proofs.Common.{◌≡◌, ℕ, ◌+◌, ◌*◌, ◌<◌, le_refl, arith, ℤ, ◌+ℤ◌, set, w32, to_z, of_z}
 use Rattle.passstage.specs.Parts.{most_part, raised-next}
-use Rattle.rules.specs.Laws.Lists.{set_other}
+use Rattle.rules.proofs.Laws.Lists.{set_other}
 use Rattle.rules.specs.Numbers.{at}
 use Rattle.whole.specs.Diff.{Within}
 use Rattle.whole.specs.Machine.{fits, reads, within-le, within-+}

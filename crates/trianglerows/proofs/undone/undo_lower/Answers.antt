@@ -6,7 +6,7 @@ use Rattle.factor.specs.SumBounds.{test-no, test-yes}
 use Rattle.factor.specs.UndoingOrder.{nth_undone}
 use Rattle.joint.specs.Elements.{sign_at, diagonal_of, undone_of, rest-element-small}
 use Rattle.joint.specs.Triangles.{total_of, lower-at, lower-left, lower-next}
-use Rattle.rules.specs.Laws.Lists.{set_at}
+use Rattle.rules.proofs.Laws.Lists.{set_at}
 use Rattle.rules.specs.Numbers.{bound, at}
 use Rattle.trianglerows.specs.TrianglesUndone.{recent-next, lower-turn, undoing-starts, undoing-value, undoing-stops, undoing-next, undoing_ends}
 use Rattle.whole.specs.Diff.{Within}

@@ -8,7 +8,7 @@ use Rattle.joint.specs.Elements.{sign_at, diagonal_of, undone_of, rest-element-s
 use Rattle.joint.specs.RowsInPlace.{in_block}
 use Rattle.joint.specs.Triangles.{total_of, upper-at, upper-left, upper-right}
 use Rattle.rules.specs.Factors.{above}
-use Rattle.rules.specs.Laws.Lists.{set_at}
+use Rattle.rules.proofs.Laws.Lists.{set_at}
 use Rattle.rules.specs.Numbers.{bound, at}
 use Rattle.trianglerows.specs.TrianglesUndone.{recent-some, recent-next, upper-turn, above_step, undoing-starts, undoing-value, undoing-stops, undoing-next, undoing_ends}
 use Rattle.whole.specs.Diff.{Within}

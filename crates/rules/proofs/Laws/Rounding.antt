@@ -13,7 +13,7 @@ use Rattle.rules.specs.declared.Rule.{Rule}
 use Rattle.rules.specs.declared.Rule.TheVariants.{Nearest, Down, Even}
 use Rattle.rules.specs.Numbers.{unit, unit²}
 use Rattle.rules.specs.Stages.{is_even, to_even, R, Rounds, share}
-use Rattle.rules.specs.Laws.SoundFactors.{Rounding}
+use Rattle.rules.proofs.Laws.SoundFactors.{Rounding}
 
 -- ---- R gives what its rule names
 next-even : (q : ℤ) → is_even q ≡ false → is_even (q +ℤ pos 1) ≡ true

@@ -12,7 +12,7 @@ use Rattle.rules.specs.Factors.{Factor, matrix}
 use Rattle.rules.specs.Stages.{weigh, off, weighed, exact}
 use Rattle.rules.specs.Shapes.{joint_sign, joint_weight}
 use Rattle.rules.specs.GoodStages.{Permutes}
-use Rattle.rules.specs.Laws.Lists.{fill-at}
+use Rattle.rules.proofs.Laws.Lists.{fill-at}
 
 module _ (r c : ℕ) where
   pub wide : (e : ℕ) → e < r * c → 0 < c

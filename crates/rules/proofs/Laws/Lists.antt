@@ -8,7 +8,7 @@ use Rattle.whole.specs.Diff.{Within}
 use Rattle.whole.specs.Sum.{sum-cong}
 use Rattle.rules.specs.Numbers.{at}
 use Rattle.rules.specs.Stages.{fill, inside, off, weighed, multiples, put_back}
-use Rattle.rules.specs.Laws.Membership.{true-false}
+use Rattle.rules.proofs.Laws.Membership.{true-false}
 
 -- ---- fill
 pub length-fill : (n : ℕ) (f : ℕ → ℤ) (v : List ℤ) → length (fill n f v) ≡ length v

@@ -11,13 +11,13 @@ use Rattle.rules.specs.Stages.{Stage, run_forward}
 use Rattle.rules.specs.Shapes.{Lines, columns, rows, pass_stages}
 use Rattle.rules.specs.Answers.{accepted, ◌or_else◌, checked}
 use Rattle.rules.specs.Calls.{two_pass, order_checked, column_pass, row_pass}
-use Rattle.rules.specs.Laws.Runs.{follow, cut-forward}
-use Rattle.rules.specs.Laws.Passes.{Tiles, columns-tile, rows-tile, passes_append, passes_count}
+use Rattle.rules.proofs.Laws.Runs.{follow, cut-forward}
+use Rattle.rules.proofs.Laws.Passes.{Tiles, columns-tile, rows-tile, passes_append, passes_count}
 use Rattle.laws.specs.Stated.Cuts.{CutLaw, cut, cut_front, cut_back}
 use Rattle.laws.specs.Accepted.{Accepted, accepted-order, two-read, two-accepted}
 use Rattle.laws.specs.Cut.{AllSame, cut-factors-count, front-accepted, back-accepted, cut-factors}
 use Rattle.laws.specs.SameStages.{SameStages, stages-self, stages-append, stages-run, passes_same}
-use Rattle.laws.specs.CutLaw.{plans-cut}
+use Rattle.laws.proofs.CutLaw.{plans-cut}
 use Rattle.laws.specs.Passes.{alone-read, alone-accepted, factors-count}
 
 -- a run whose stages are those of two lists, one after the other

@@ -9,7 +9,7 @@ use Rattle.rules.specs.Numbers.{unit, unit²}
 use Rattle.rules.specs.Factors.{Factor}
 use Rattle.rules.specs.Stages.{move, weigh, scale, exact_scale}
 use Rattle.rules.specs.Shapes.{stage_of, line_stage, line_stages, joint_stage, joint_stages}
-use Rattle.rules.specs.Laws.Kinds.{by_kind}
+use Rattle.rules.proofs.Laws.Kinds.{by_kind}
 
 pub lines-append : (n : ℕ) (fs gs : List Factor) → line_stages n (fs ++ gs) ≡ line_stages n fs ++ line_stages n gs
 unfolding line_stages

@@ -8,12 +8,12 @@ use Rattle.rules.specs.Numbers.{unit, at}
 use Rattle.rules.specs.Factors.{Factor, matrix}
 use Rattle.rules.specs.Stages.{Stage, move, weigh, exact, through, exact_product}
 use Rattle.rules.specs.Shapes.{line_stage, line_stages, Lines, pass_source, pass_sign, pass_weight, pass_stage, pass_stages}
-use Rattle.rules.specs.Laws.SoundFactors.{Sound, AllSound}
-use Rattle.rules.specs.Laws.Lists.{fill-at}
-use Rattle.rules.specs.Laws.AllowanceLaw.{length-exact}
-use Rattle.rules.specs.Laws.Kinds.{by_kind, stage-moves, stage-weighs}
-use Rattle.rules.specs.Laws.Passes.{Tiles}
-use Rattle.rules.specs.Laws.Along.{Holds, source-at, sign_at_lem, along-sum}
+use Rattle.rules.proofs.Laws.SoundFactors.{Sound, AllSound}
+use Rattle.rules.proofs.Laws.Lists.{fill-at}
+use Rattle.rules.proofs.Laws.AllowanceLaw.{length-exact}
+use Rattle.rules.proofs.Laws.Kinds.{by_kind, stage-moves, stage-weighs}
+use Rattle.rules.proofs.Laws.Passes.{Tiles}
+use Rattle.rules.proofs.Laws.Along.{Holds, source-at, sign_at_lem, along-sum}
 
 module _ {N : ℕ} {r : Lines} (t : Tiles N r) {l : ℕ} (a : l < r.many) where
   -- one factor, along a line that u holds

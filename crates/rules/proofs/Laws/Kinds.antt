@@ -17,9 +17,9 @@ use Rattle.rules.specs.Stages.{Stage}
 use Rattle.rules.specs.Shapes.{turn, order, in_row, stage_of, line_stage, line_stages, joint_source, joint_sign, joint_weight}
 use Rattle.rules.specs.Shapes.{joint_shared, joint_stage, joint_stages}
 use Rattle.rules.specs.GoodStages.{Permutes, Good, moves, weighs, AllGood}
-use Rattle.rules.specs.Laws.SoundFactors.{Sound, AllSound, AllMatch}
-use Rattle.rules.specs.Laws.RecoveryOrder.{Ranked, turns-recover}
-use Rattle.rules.specs.Laws.Rectangles.{row_below, col-below, same-element, pair-permutes}
+use Rattle.rules.proofs.Laws.SoundFactors.{Sound, AllSound, AllMatch}
+use Rattle.rules.proofs.Laws.RecoveryOrder.{Ranked, turns-recover}
+use Rattle.rules.proofs.Laws.Rectangles.{row_below, col-below, same-element, pair-permutes}
 
 -- a stage by its kind: a move of kind 1, a weighing of every other kind
 pub by_kind : (P : Stage → Type 0) (kind : Kind) (a b : Stage) →

@@ -19,12 +19,12 @@ use Rattle.rules.specs.Stages.{Stage, move, exact, through, exact_product}
 use Rattle.rules.specs.Shapes.{line_stage, line_stages, joint_source, joint_weight, joint_stage, joint_stages}
 use Rattle.rules.specs.Matrices.{Matrix, moving, matrix_of, unchanged, after, product}
 use Rattle.rules.specs.GoodStages.{Permutes}
-use Rattle.rules.specs.Laws.SoundFactors.{Sound, AllSound, AllMatch}
-use Rattle.rules.specs.Laws.Lists.{fill-at}
-use Rattle.rules.specs.Laws.AllowanceLaw.{length-exact}
-use Rattle.rules.specs.Laws.Kinds.{by_kind}
-use Rattle.rules.specs.Laws.Rectangles.{row_below, col-below, element-below, row-of, col-of, same-element, sum_rows}
-use Rattle.rules.specs.Laws.Rectangles.{exact-line, exact-joint}
+use Rattle.rules.proofs.Laws.SoundFactors.{Sound, AllSound, AllMatch}
+use Rattle.rules.proofs.Laws.Lists.{fill-at}
+use Rattle.rules.proofs.Laws.AllowanceLaw.{length-exact}
+use Rattle.rules.proofs.Laws.Kinds.{by_kind}
+use Rattle.rules.proofs.Laws.Rectangles.{row_below, col-below, element-below, row-of, col-of, same-element, sum_rows}
+use Rattle.rules.proofs.Laws.Rectangles.{exact-line, exact-joint}
 
 -- ---- a list by a matrix: element e is the sum of M(e,k)·x(k)
 abbrev Multiplies : ℕ → Matrix → List ℤ → List ℤ → Type 0

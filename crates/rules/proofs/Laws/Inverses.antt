@@ -14,9 +14,9 @@ use Rattle.rules.specs.Numbers.{at}
 use Rattle.rules.specs.declared.Rule.{Rule}
 use Rattle.rules.specs.Stages.{R, fill, Stage, move, weigh, off, weighed, put_back, forward, recover, undo}
 use Rattle.rules.specs.GoodStages.{Permutes, has, InOrder, end, next, Recovers, Good, moves, weighs}
-use Rattle.rules.specs.Laws.Membership.{true-false, has_first, has_rest, has_more}
-use Rattle.rules.specs.Laws.Lists.{length-fill, fill-past, fill-at, same-list, set_at, set_other, off_self, off_zero}
-use Rattle.rules.specs.Laws.Lists.{weighed-agree}
+use Rattle.rules.proofs.Laws.Membership.{true-false, has_first, has_rest, has_more}
+use Rattle.rules.proofs.Laws.Lists.{length-fill, fill-past, fill-at, same-list, set_at, set_other, off_self, off_zero}
+use Rattle.rules.proofs.Laws.Lists.{weighed-agree}
 
 -- ---- a move
 pub length-put : (n : ℕ) (p : ℕ → ℕ) (v : List ℤ) → length (put_back n p v) ≡ length v

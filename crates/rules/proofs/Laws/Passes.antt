@@ -15,11 +15,11 @@ use Rattle.rules.specs.Stages.{Stage, exact_scale}
 use Rattle.rules.specs.Shapes.{turn, in_row, Lines, columns, rows, pass_source, pass_sign, pass_weight, pass_turn, pass_stage}
 use Rattle.rules.specs.Shapes.{pass_stages}
 use Rattle.rules.specs.GoodStages.{Permutes, Good, moves, weighs, AllGood}
-use Rattle.rules.specs.Laws.SoundFactors.{Sound, AllSound}
-use Rattle.rules.specs.Laws.RecoveryOrder.{Ranked, turns-recover}
-use Rattle.rules.specs.Laws.Rectangles.{row_below, col-below, element-below, row-of, col-of, sum_rows}
-use Rattle.rules.specs.Laws.Kinds.{by_kind, line-ranked}
-use Rattle.rules.specs.Laws.Cuts.{stage-scale}
+use Rattle.rules.proofs.Laws.SoundFactors.{Sound, AllSound}
+use Rattle.rules.proofs.Laws.RecoveryOrder.{Ranked, turns-recover}
+use Rattle.rules.proofs.Laws.Rectangles.{row_below, col-below, element-below, row-of, col-of, sum_rows}
+use Rattle.rules.proofs.Laws.Kinds.{by_kind, line-ranked}
+use Rattle.rules.proofs.Laws.Cuts.{stage-scale}
 
 -- every element of N is in one line, at one spot
 pub record Tiles (N : ℕ) (r : Lines) : Type 0 where

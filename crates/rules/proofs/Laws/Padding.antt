@@ -15,12 +15,12 @@ use Rattle.rules.specs.Stages.{R, fill, inside, offender, Stage, off, weighed, p
 use Rattle.rules.specs.Stages.{Ran, done, beyond, later, run, first_read, first_recovered, run_forward, run_inverse}
 use Rattle.rules.specs.Stages.{run_allowance}
 use Rattle.rules.specs.GoodStages.{Permutes, has, Good, moves, weighs, AllGood}
-use Rattle.rules.specs.Laws.Membership.{has_first, has_more}
-use Rattle.rules.specs.Laws.Lists.{length-fill}
-use Rattle.rules.specs.Laws.Offenders.{read_below, recovered-below}
-use Rattle.rules.specs.Laws.Inverses.{length-put, length-forward, length-undo}
-use Rattle.rules.specs.Laws.Runs.{all-reverse}
-use Rattle.rules.specs.Laws.AllowanceLaw.{length-allow}
+use Rattle.rules.proofs.Laws.Membership.{has_first, has_more}
+use Rattle.rules.proofs.Laws.Lists.{length-fill}
+use Rattle.rules.proofs.Laws.Offenders.{read_below, recovered-below}
+use Rattle.rules.proofs.Laws.Inverses.{length-put, length-forward, length-undo}
+use Rattle.rules.proofs.Laws.Runs.{all-reverse}
+use Rattle.rules.proofs.Laws.AllowanceLaw.{length-allow}
 
 -- a run's list with p behind it
 unfoldable pub padded_run : Ran → List ℤ → Ran

@@ -15,8 +15,8 @@ use Rattle.rules.specs.Numbers.{at}
 use Rattle.rules.specs.Stages.{those, up_to, offender, Stage, recovery}
 use Rattle.rules.specs.Shapes.{by_turn}
 use Rattle.rules.specs.GoodStages.{has, Good, moves, weighs}
-use Rattle.rules.specs.Laws.Membership.{has-none, has_first, has_rest, has_more}
-use Rattle.rules.specs.Laws.RecoveryOrder.{has-those, those-has, has-turn, turn-has}
+use Rattle.rules.proofs.Laws.Membership.{has-none, has_first, has_rest, has_more}
+use Rattle.rules.proofs.Laws.RecoveryOrder.{has-those, those-has, has-turn, turn-has}
 
 -- ---- the orders of a run
 pub read_below : (N e : ℕ) → has e (up_to N) ≡ true → e < N

@@ -17,11 +17,11 @@ use Rattle.rules.specs.declared.Rule.{Rule}
 use Rattle.rules.specs.Stages.{R, share, ceiling, Stage, move, weigh, scale, off, weighed, multiples, forward, allow, exact}
 use Rattle.rules.specs.Stages.{done, through, run_forward, run_allowance, exact_product, exact_scale}
 use Rattle.rules.specs.GoodStages.{Good, moves, weighs, AllGood}
-use Rattle.rules.specs.Laws.Rounding.{rounding}
-use Rattle.rules.specs.Laws.Membership.{true-false}
-use Rattle.rules.specs.Laws.Lists.{length-fill, fill-at}
-use Rattle.rules.specs.Laws.Inverses.{length-forward}
-use Rattle.rules.specs.Laws.Runs.{run-through}
+use Rattle.rules.proofs.Laws.Rounding.{rounding}
+use Rattle.rules.proofs.Laws.Membership.{true-false}
+use Rattle.rules.proofs.Laws.Lists.{length-fill, fill-at}
+use Rattle.rules.proofs.Laws.Inverses.{length-forward}
+use Rattle.rules.proofs.Laws.Runs.{run-through}
 
 -- ---- 4096·|z| ≤ D·b, and sums and multiples of what is so near
 record Near (D : ℕ) (z b : ℤ) : Type 0 where

@@ -11,7 +11,7 @@ use Rattle.rules.specs.declared.Rule.{Rule}
 use Rattle.rules.specs.Stages.{inside, first_read, first_recovered, Stage, forward, undo, Ran, done, beyond, later, run}
 use Rattle.rules.specs.Stages.{through, run_forward, run_inverse}
 use Rattle.rules.specs.GoodStages.{Good, AllGood}
-use Rattle.rules.specs.Laws.Inverses.{length-forward, length-undo, undo-forward, forward-undo}
+use Rattle.rules.proofs.Laws.Inverses.{length-forward, length-undo, undo-forward, forward-undo}
 
 -- a second run on what a first one of n stages gave: its refusal is n stages later
 unfoldable pub follow : ℕ → Ran → (List ℤ → Ran) → Ran

@@ -14,12 +14,12 @@ use Rattle.rules.specs.Numbers.{unit, at}
 use Rattle.rules.specs.Factors.{Factor, matrix}
 use Rattle.rules.specs.Stages.{R, share, ceiling, Stage, move, weigh, off, weighed, multiples, forward, undo, allow}
 use Rattle.rules.specs.Shapes.{line_stage, Lines, pass_source, pass_sign, pass_weight, pass_stage}
-use Rattle.rules.specs.Laws.SoundFactors.{Sound}
-use Rattle.rules.specs.Laws.Lists.{fill-at, fill-past, same-list, off_zero, multiples-yes, multiples-at}
-use Rattle.rules.specs.Laws.Inverses.{length-forward, undo-forward, forward-undo}
-use Rattle.rules.specs.Laws.AllowanceLaw.{length-allow}
-use Rattle.rules.specs.Laws.Kinds.{by_kind, stage-moves, stage-weighs, line-good}
-use Rattle.rules.specs.Laws.Passes.{Tiles, pass-good}
+use Rattle.rules.proofs.Laws.SoundFactors.{Sound}
+use Rattle.rules.proofs.Laws.Lists.{fill-at, fill-past, same-list, off_zero, multiples-yes, multiples-at}
+use Rattle.rules.proofs.Laws.Inverses.{length-forward, undo-forward, forward-undo}
+use Rattle.rules.proofs.Laws.AllowanceLaw.{length-allow}
+use Rattle.rules.proofs.Laws.Kinds.{by_kind, stage-moves, stage-weighs, line-good}
+use Rattle.rules.proofs.Laws.Passes.{Tiles, pass-good}
 
 both_ways : (x y : Bool) → (x ≡ true → y ≡ true) → (y ≡ true → x ≡ true) → x ≡ y
 both_ways true y h k = sym (h refl)

@@ -13,7 +13,7 @@ use Rattle.whole.specs.Stated.{Sign}
 use Rattle.rules.specs.Stages.{those}
 use Rattle.rules.specs.Shapes.{by_turn, turn}
 use Rattle.rules.specs.GoodStages.{has, InOrder, end, next, Recovers}
-use Rattle.rules.specs.Laws.Membership.{true-false, has-none, has_first, has_more, has_left, has_right, has_either}
+use Rattle.rules.proofs.Laws.Membership.{true-false, has-none, has_first, has_more, has_left, has_right, has_either}
 
 -- ---- lists end to end
 module _ (w : ℕ → ℕ → ℤ) where

@@ -10,8 +10,8 @@ use Rattle.rules.specs.Stages.{Ran, done, beyond, later, run_forward}
 use Rattle.rules.specs.Shapes.{line_stages, joint_stages}
 use Rattle.rules.specs.Answers.{accepted, checked, matching, pair_checked}
 use Rattle.rules.specs.Calls.{Reply, reply, Plan, line, joint, ran_answer, ran_memory, forward_call, rule_of, rule_checked, under}
-use Rattle.rules.specs.Laws.Runs.{follow, cut-forward}
-use Rattle.rules.specs.Laws.Cuts.{lines-append, lines-count, joints-append, joints-count}
+use Rattle.rules.proofs.Laws.Runs.{follow, cut-forward}
+use Rattle.rules.proofs.Laws.Cuts.{lines-append, lines-count, joints-append, joints-count}
 use Rattle.laws.specs.Stated.Cuts.{farther, in_two, CutLaw, cut, cut_front, cut_back}
 use Rattle.laws.specs.Accepted.{Accepted, accepted-read, checked-accepted, pair_read, pair-accepted}
 use Rattle.laws.specs.Sound.{sheets-match, counts-agree}

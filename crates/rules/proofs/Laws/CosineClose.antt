@@ -9,7 +9,7 @@ use Rattle.rules.specs.Stages.{scale, fill, off, weighed, exact, through, exact_
 use Rattle.rules.specs.Shapes.{stage_of, line_stage, line_stages}
 use Rattle.rules.specs.Calls.{built_in, first_printing}
 use Rattle.rules.specs.Cosine.{element, scale_of, distance, all, is_cosine}
-use Rattle.rules.specs.Laws.Rectangles.{row-of, col-of, element-below}
+use Rattle.rules.proofs.Laws.Rectangles.{row-of, col-of, element-below}
 
 -- the corrected table passes it, and the first printing does not
 pub cosine : is_cosine built_in ≡ true
