@@ -6,7 +6,7 @@ use Rattle.std.proofs.Math.Path.{◌≡◌, refl, sym}
 use Rattle.std.proofs.Common.{ap, ◌∙◌}
 use native.Mathlib.Omega.{arith}
 use Rattle.std.proofs.Math.ListN.{length-reverse}
-use Rattle.rules.specs.Numbers.{bound, at}
+use Rattle.rules.specs.Numbers.{bound}
 use Rattle.rules.specs.declared.Rule.{Rule}
 use Rattle.rules.specs.Stages.{inside, first_read, first_recovered, Stage, forward, undo, Ran, done, beyond, later, run}
 use Rattle.rules.specs.Stages.{through, run_forward, run_inverse}

@@ -3,4 +3,4 @@ use Rattle.laws.specs.Tests.{triangle-half}
 use Rattle.sheetread.proofs.factors.triangle_of.Goals as goal
 
 pub returns : goal.returns
-returns c =     triangle-half c.args.n c.requires.0
+returns c = triangle-half c.args.n c.requires.0

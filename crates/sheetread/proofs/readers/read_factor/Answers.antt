@@ -5,10 +5,10 @@ use Rattle.sheetread.proofs.readers.read_factor.Goals as goal
 
 pub returns-then-r-ne0 : goal.returns-then-r-ne0
 unfolding factor
-returns-then-r-ne0 c =     stops _ c.read_one-r.ensures c.if-r-ne0.true
+returns-then-r-ne0 c = stops _ c.read_one-r.ensures c.if-r-ne0.true
 
 pub kind_at-requires : goal.kind_at-requires
-kind_at-requires c =     seen c.read_one-r.ensures c.if-r-ne0.false
+kind_at-requires c = seen c.read_one-r.ensures c.if-r-ne0.false
 
 pub returns : goal.returns
 unfolding factor
