@@ -23,7 +23,7 @@ loop-k-preserved c =
     (omega arith, omega (arith, l.invariant.1), h)
 
 pub returns : goal.returns
-returns c =
+returns c t =
     let l = c.loop-k in
     let a = c.args in
     let e : l.k ≡ a.m = omega arith in

@@ -35,7 +35,7 @@ loop-k-preserved c =
     (omega arith, c.loop-k.invariant.1, rw e h, length-set c.loop-k.used _ _ ∙ c.loop-k.invariant.3)
 
 pub returns : goal.returns
-returns c =
+returns c n =
     let a = c.args in
     let e : c.loop-k.k ≡ a.n = omega arith in
     saw-all a.sheet.now _ a.n a.p c.loop-k.invariant.1 (rw e at c.loop-k.invariant.2.each)
