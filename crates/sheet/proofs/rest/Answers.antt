@@ -15,7 +15,7 @@ offset_bounds-col-p c =
     search rules
 
 pub slice_bounds-result-count : goal.slice_bounds-result-count
-slice_bounds-result-count c =     placed c.args.col.now c.read_whole-c.ensures
+slice_bounds-result-count c = placed c.args.col.now c.read_whole-c.ensures
 
 pub offset_bounds-row-p : goal.offset_bounds-row-p
 offset_bounds-row-p c =

@@ -12,7 +12,7 @@ small c =
 
 pub overflow_add-faults : goal.overflow_add-faults
 overflow_add-faults c =
-        let h = small (goal.at.overflow_add-faults c).After-fault_of-faults in omega (arith, c.loop-k.invariant.1)
+    let h = small (goal.at.overflow_add-faults c).After-fault_of-faults in omega (arith, c.loop-k.invariant.1)
 
 pub loop-k-preserved : goal.loop-k-preserved
 loop-k-preserved c =
