@@ -5,7 +5,7 @@ use Rattle.std.proofs.Math.Nat.{sub-zero}
 use borrow.Author.Tests.{ne_eqb}
 use Rattle.rules.specs.declared.Spelt.{Spelt}
 use Rattle.rules.specs.Numbers.{at}
-use Rattle.rules.specs.Recipes.{value, none, number, unpack, left, numbers_of, left_of}
+use Rattle.rules.specs.Recipes.{value, number, unpack, left, numbers_of, left_of}
 use Rattle.rules.specs.Calls.{over}
 use Rattle.recipebytes.specs.Groups.{number-inside}
 use Rattle.recipebytes.specs.Packing.{left-stop, unpack-stop}

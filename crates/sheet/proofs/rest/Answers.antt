@@ -15,14 +15,23 @@ offset_bounds-col-p c =
     search rules
 
 pub slice_bounds-result-count : goal.slice_bounds-result-count
-slice_bounds-result-count c =     placed c.args.col.now c.read_whole-c.ensures
+slice_bounds-result-count c = placed c.args.col.now c.read_whole-c.ensures
 
 pub offset_bounds-row-p : goal.offset_bounds-row-p
 offset_bounds-row-p c =
-    let h = placed c.args.row.now
-    c.read_whole-r.ensures in
+    let h = placed c.args.row.now c.read_whole-r.ensures in
     search rules
 
 pub slice_bounds-result-count-then-r-ne0 : goal.slice_bounds-result-count-then-r-ne0
 slice_bounds-result-count-then-r-ne0 c =
     placed c.args.row.now c.read_whole-r.ensures
+
+pub slice_bounds-result-start : goal.slice_bounds-result-start
+slice_bounds-result-start c =
+    let h = placed c.args.col.now c.read_whole-c.ensures in
+    search rules
+
+pub slice_bounds-result-start-then-r-ne0 : goal.slice_bounds-result-start-then-r-ne0
+slice_bounds-result-start-then-r-ne0 c =
+    let h = placed c.args.row.now c.read_whole-r.ensures in
+    search rules

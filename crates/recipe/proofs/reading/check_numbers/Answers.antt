@@ -11,6 +11,6 @@ returns c =
     let m = c.smaller-m in
     let all = numbers_of c.args.bytes.now in
     let e : m.result ≡ min (length all) (suc longest) = rw c.requires at m.ensures in
-    let front : take m.result c.decode.new.1.0 ≡ take m.result all =
+    let front : take m.result c.decode.new.out ≡ take m.result all =
     ap (take m.result) c.decode.ensures ∙ front-is all _ m.result (omega (arith, e)) in
     c.check.ensures ∙ ap checked (front ∙ ap (λ (k : ℕ). take k all) e) ∙ checked-front all

@@ -13,7 +13,7 @@ above : (c : Else-v-lt0) → Above c.args.v
 above c = above_zero c.args.v (rw (to_z-of_z c.ranges.v) at c.if-v-lt0.false)
 
 pub returns-then-v-lt0 : goal.returns-then-v-lt0
-returns-then-v-lt0 c =     sym (is (goal.at.returns-then-v-lt0 c).After-below).code_is
+returns-then-v-lt0 c = sym (is (goal.at.returns-then-v-lt0 c).After-below).code_is
 
 pub returns : goal.returns
-returns c =     rw (to_z-of_z c.ranges.v) (sym (above (goal.at.returns c).Else-v-lt0).code_is)
+returns c = rw (to_z-of_z c.ranges.v) (sym (above (goal.at.returns c).Else-v-lt0).code_is)

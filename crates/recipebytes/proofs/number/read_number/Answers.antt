@@ -4,13 +4,13 @@ use Rattle.recipebytes.specs.Groups.{third-small, second-small, number_by, numbe
 use Rattle.recipebytes.proofs.number.read_number.Goals as goal
 
 pub returns-then-i-bytes : goal.returns-then-i-bytes
-returns-then-i-bytes c =     c.none.ensures ∙ sym (number_past _ _ c.if-i-bytes.true)
+returns-then-i-bytes c = c.none.ensures ∙ sym (number_past _ _ c.if-i-bytes.true)
 
 pub group-second-requires : goal.group-second-requires
-group-second-requires c =     rw (c.group-third.ensures, c.none-2.ensures) (third-small _)
+group-second-requires c = rw (c.group-third.ensures, c.none-2.ensures) (third-small _)
 
 pub group-requires : goal.group-requires
-group-requires c =     rw (c.group-second.ensures, c.group-third.ensures, c.none-2.ensures) (second-small _ _)
+group-requires c = rw (c.group-second.ensures, c.group-third.ensures, c.none-2.ensures) (second-small _ _)
 
 pub returns : goal.returns
 returns c =

@@ -4,7 +4,6 @@ use Rattle.recipebytes.specs.Codes.{value-even, value-odd, minus-one-less}
 use Rattle.whole.specs.Diff.{lia}
 use Rattle.recipebytes.proofs.number.value_of.Goals as goal
 
--- The number of a code: half of it, or below zero one less than minus that half. Both fit, since a code is a u32.
 read_pos : (n : ℕ) → n < 2 ^ 31 → to_z w32 n ≡ pos n
 read_pos n h = to_z-of_z {w = w32} {z = pos n} (record { sfits = h })
 
@@ -12,7 +11,7 @@ read-minus : (n : ℕ) → n < 2 ^ 31 → to_z w32 (of_z w32 (pos 0 -ℤ pos n))
 read-minus n h = to_z-of_z {w = w32} {z = pos 0 -ℤ pos n} (simp lia (omega arith))
 
 pub returns-then-u-eq0 : goal.returns-then-u-eq0
-returns-then-u-eq0 c =     read_pos (c.args.u / 2) (omega arith) ∙ sym (value-even c.args.u c.if-u-eq0.true)
+returns-then-u-eq0 c = read_pos (c.args.u / 2) (omega arith) ∙ sym (value-even c.args.u c.if-u-eq0.true)
 
 pub returns : goal.returns
 returns c =

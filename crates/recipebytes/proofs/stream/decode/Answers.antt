@@ -7,4 +7,5 @@ use Rattle.recipebytes.proofs.stream.decode.Goals as goal
 pub loop-k-preserved : goal.loop-k-preserved
 loop-k-preserved c =
     let l = c.loop-k in
-    (omega arith, decode-on (omega arith) l.invariant.1 (omega arith) c.read_into-i.ensures.0 c.read_into-i.ensures.1)
+    let e = c.read_into-i.ensures in
+    (omega arith, decode-on (omega arith) l.invariant.1 (omega arith) e.next e.list)

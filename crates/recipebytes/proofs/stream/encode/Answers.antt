@@ -4,7 +4,7 @@ use Rattle.recipebytes.specs.Writing.{encode-none, encode-code, encode-fits, enc
 use Rattle.recipebytes.proofs.stream.encode.Goals as goal
 
 pub loop-k-init : goal.loop-k-init
-loop-k-init c =     (omega arith, encode-none _ _)
+loop-k-init c = (omega arith, encode-none _ _)
 
 pub write_code-i-requires : goal.write_code-i-requires
 write_code-i-requires c =

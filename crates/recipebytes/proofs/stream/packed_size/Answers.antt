@@ -5,7 +5,7 @@ use Rattle.recipebytes.specs.Writing.{size_none, size-on}
 use Rattle.recipebytes.proofs.stream.packed_size.Goals as goal
 
 pub loop-k-init : goal.loop-k-init
-loop-k-init c =     (omega arith, size_none _)
+loop-k-init c = (omega arith, size_none _)
 
 pub overflow_add-total : goal.overflow_add-total
 overflow_add-total c =

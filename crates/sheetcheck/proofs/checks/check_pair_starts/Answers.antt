@@ -16,16 +16,16 @@ returns-then-a-ne0 c =
 
 pub check_match-requires : goal.check_match-requires
 check_match-requires c =
-    let d = c.check-two-starts.ensures in
-    let a = two-read _ _ (ap (λ (x : Answer). x.number) (sym d.0) ∙ c.if1.false) in
-    let s = d.1 c.if1.false in
+    let d = c.check_two_starts-a.ensures in
+    let a = two-read _ _ (ap (λ (x : Answer). x.number) (sym d.0) ∙ c.if-a-ne0.false) in
+    let s = d.1 c.if-a-ne0.false in
     (a.0, a.1, s.0, s.1)
 
 pub returns : goal.returns
 unfolding pair_checked
 returns c =
-    let d = c.check-two-starts.ensures in (
+    let d = c.check_two_starts-a.ensures in (
       c.check_match.ensures
-          ∙ sym (in-turn _ _ _ ∙ answer-passes _ _ (ap (λ (a : Answer). a.number) (sym d.0) ∙ c.if1.false)),
-      λ z. d.1 c.if1.false,
+          ∙ sym (in-turn _ _ _ ∙ answer-passes _ _ (ap (λ (a : Answer). a.number) (sym d.0) ∙ c.if-a-ne0.false)),
+      λ z. d.1 c.if-a-ne0.false,
     )

@@ -7,7 +7,6 @@ use Rattle.rules.specs.declared.Answer.{Answer}
 use Rattle.sheetcheck.proofs.Readings.{no-fault}
 use Rattle.sheetcheck.proofs.checks.check_two_starts.Goals as goal
 
--- The first answer that is a refusal: column sheet, then row sheet. Assumes nothing.
 -- both sheets, where 0 is answered
 both : (c r : List ℤ) {a : Answer} → a ≡ read_answer 0 (reading c) or_else read_answer 1 (reading r) → a.number ≡ 0 →
     Accepted c × Accepted r

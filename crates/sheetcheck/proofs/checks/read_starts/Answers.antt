@@ -5,7 +5,7 @@ use Rattle.rules.specs.declared.Mark.{Mark}
 use Rattle.sheetcheck.proofs.checks.read_starts.Goals as goal
 
 pub returns-then-is_faultless : goal.returns-then-is_faultless
-returns-then-is_faultless c =     let h = c.is_faultless.ensures.1 c.if-is_faultless.true in (sym (reading-accepted h.0), λ z. h)
+returns-then-is_faultless c = let h = c.is_faultless.ensures.1 c.if-is_faultless.true in (sym (reading-accepted h.0), λ z. h)
 
 pub returns : goal.returns
 returns c =

@@ -12,7 +12,7 @@ small c =
 
 pub overflow_add-faults : goal.overflow_add-faults
 overflow_add-faults c =
-        let h = small (goal.at.overflow_add-faults c).After-fault_of-faults in omega (arith, c.loop-k.invariant.1)
+    let h = small (goal.at.overflow_add-faults c).After-fault_of-faults in omega (arith, c.loop-k.invariant.1)
 
 pub loop-k-preserved : goal.loop-k-preserved
 loop-k-preserved c =
@@ -23,7 +23,7 @@ loop-k-preserved c =
     (omega arith, omega (arith, l.invariant.1), h)
 
 pub returns : goal.returns
-returns c =
+returns c t =
     let l = c.loop-k in
     let a = c.args in
     let e : l.k ≡ a.m = omega arith in

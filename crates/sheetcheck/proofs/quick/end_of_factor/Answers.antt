@@ -6,7 +6,7 @@ use Rattle.sheetcheck.specs.Quick.{ends-then}
 use Rattle.sheetcheck.proofs.quick.end_of_factor.Goals as goal
 
 pub kind_at-kind-requires : goal.kind_at-kind-requires
-kind_at-kind-requires c =     seen (sym (c.end_of_one-p.ensures c.if-p-eq0.false).next) refl
+kind_at-kind-requires c = seen (sym (c.end_of_one-p.ensures c.if-p-eq0.false).next) refl
 
 pub returns-then-n-eq4 : goal.returns-then-n-eq4
 unfolding factor

@@ -2,26 +2,18 @@
 -- Assumes nothing.
 use Rattle.std.proofs.Common.{◌∙◌, ◌<◌, arith, length-set}
 use Rattle.laws.specs.Accepted.{order-ranged, count-ranged}
-use Rattle.rules.specs.Numbers.{count}
 use Rattle.sheetread.specs.Starts.{none-met, one_more, place-low}
 use Rattle.sheetcheck.proofs.quick.end_of_factors.Goals as goal
 use Rattle.sheetcheck.proofs.quick.end_of_factors.Goals.{In-loop-f}
 
 pub count_at-n-requires : goal.count_at-n-requires
-count_at-n-requires c =     let h = c.requires.0.order in (h.there, (order-ranged h).natural)
+count_at-n-requires c = let h = c.requires.0.order in (h.there, (order-ranged h).natural)
 
 pub count_at-many-requires : goal.count_at-many-requires
-count_at-many-requires c =     let h = c.requires.0.count in (h.there, (count-ranged h).natural)
+count_at-many-requires c = let h = c.requires.0.count in (h.there, (count-ranged h).natural)
 
 pub loop-f-init : goal.loop-f-init
-loop-f-init c =
-        (
-  omega arith,
-  c.count_at-n.ensures,
-  c.count_at-many.ensures,
-  c.requires.1,
-  none-met,
-    )
+loop-f-init c = (omega arith, c.count_at-n.ensures, c.count_at-many.ensures, c.requires.1, none-met)
 
 -- the table has room
 few : (c : In-loop-f) → c.loop-f.f < 32
@@ -33,10 +25,10 @@ overflow_cast-starts c =
     let l = place-low c.requires.0 c.loop-f.invariant.4 (few (goal.at.overflow_cast-starts c).In-loop-f) in omega arith
 
 pub offset_bounds-starts-f : goal.offset_bounds-starts-f
-offset_bounds-starts-f c =     let l = few (goal.at.offset_bounds-starts-f c).In-loop-f in omega arith
+offset_bounds-starts-f c = let l = few (goal.at.offset_bounds-starts-f c).In-loop-f in omega arith
 
 pub bounds-starts-f : goal.bounds-starts-f
-bounds-starts-f c =     few (goal.at.bounds-starts-f c).In-loop-f
+bounds-starts-f c = few (goal.at.bounds-starts-f c).In-loop-f
 
 pub end_of_factor-i-requires : goal.end_of_factor-i-requires
 end_of_factor-i-requires c =

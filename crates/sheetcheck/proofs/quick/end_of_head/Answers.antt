@@ -8,6 +8,6 @@ use Rattle.sheetcheck.proofs.quick.end_of_head.Goals as goal
 
 pub returns : goal.returns
 unfolding head
-returns c =
+returns c n =
     let h = ends-then _ c.end_of_one-p.ensures c.if-p-eq0.false c.end_of_one.ensures n in
     headed _ (ap (λ (m : Mark). m.number) h.next)
