@@ -10,9 +10,8 @@ use Rattle.factor.proofs.sums.row_sum.Goals.{After-products_sum_from}
 
 pub products_sum_from-requires : goal.products_sum_from-requires
 products_sum_from-requires c =
-    let w = c.products_sum_from-arg-2-1.given in
     rw (part-is (c.args.r.at + c.args.r.left) c.args.sheet.now)
-    (let b = c.requires.0.right in omega arith, right-terms c.requires.0 c.requires.1 w)
+    (let b = c.requires.0.right in omega arith, right-terms c.requires.0 c.requires.1 (omega arith))
 
 value :
     (c : After-products_sum_from) →
@@ -23,7 +22,7 @@ value c =
     (back w64 _ c.products_sum.type_inv ∙ (rw (part-is c.args.r.at c.args.sheet.now) at c.products_sum.ensures))
     (back w64 _ c.products_sum_from.type_inv
     ∙ (rw (part-is (c.args.r.at + c.args.r.left) c.args.sheet.now) at c.products_sum_from.ensures))
-    ∙ along-runs c.requires.0 c.requires.1 c.products_sum-arg-2-1.given
+    ∙ along-runs c.requires.0 c.requires.1 (omega arith)
 
 small :
     (c : After-products_sum_from) →

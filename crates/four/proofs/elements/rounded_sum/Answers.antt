@@ -41,4 +41,5 @@ value c =
 
 pub round_line-requires : goal.round_line-requires
 round_line-requires c =
-    rw (value (goal.at.round_line-requires c).After-products_sum) (within-le (omega arith) (row-sum-small c.requires.0 c.requires.1 (rule_by c.args.down c.args.even)))
+    rw (value (goal.at.round_line-requires c).After-products_sum)
+    (within-le (omega arith) (row-sum-small c.requires.0 c.requires.1 (rule_by c.args.down c.args.even)))
