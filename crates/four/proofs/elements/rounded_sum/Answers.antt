@@ -37,7 +37,7 @@ unfolding row_sum sum
 value c =
     let x = c.args.x.now in
     back w64 _ c.products_sum.type_inv ∙ c.products_sum.ensures
-    ∙ ap (λ (w : List ℤ). sum 4 (λ j. at w j *ℤ at x j)) (read c.before)
+    ∙ ap (λ (w : List ℤ). sum 4 (λ j. at w j *ℤ at x j)) (read c.before.before.before)
 
 pub round_line-requires : goal.round_line-requires
 round_line-requires c =

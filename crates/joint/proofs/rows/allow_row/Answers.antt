@@ -2,9 +2,9 @@
 -- (`link`).
 use Rattle.std.proofs.Common.{Bool, List, ◌≡◌, sym, ap, ◌∙◌, ℕ, ◌+◌, ◌*◌, ◌<◌, add-one, arith, ℤ, length, w32, w64, to_z, of_z, ◌%◌}
 use Rattle.factor.specs.InPlace.{in_place, length-in-place}
-use Rattle.factor.specs.SumBounds.{bounded-set, test-no, test-yes}
+use Rattle.factor.specs.SumBounds.{Bounded, bounded-set, test-no, test-yes}
 use Rattle.joint.specs.Allowances.{allowed_at, allowed_of, magnitude-sums-small}
-use Rattle.joint.specs.RowsInPlace.{steps-same, row-ahead, allowed-here}
+use Rattle.joint.specs.RowsInPlace.{in_row, steps-same, row-ahead, allowed-here}
 use Rattle.factor.specs.declared.Layout.{Layout}
 use Rattle.rules.specs.declared.Rule.{Rule}
 use Rattle.rules.proofs.Laws.Rectangles.{col-of}
@@ -12,7 +12,7 @@ use Rattle.rules.specs.Numbers.{most_allowance, at}
 use Rattle.whole.specs.Diff.{Within}
 use Rattle.whole.specs.Machine.{reads, back}
 use Rattle.joint.proofs.rows.allow_row.Goals as goal
-use Rattle.joint.proofs.rows.allow_row.Goals.{After-allowed_at-z, After-magnitude_sums_at, Else-not-is_within, In-loop-j}
+use Rattle.joint.proofs.rows.allow_row.Goals.{After-allowed_at-z, After-magnitude_sums_at}
 
 -- element e by the test and the sums of its row
 abbrev G : Rule → List ℤ → Layout → Bool → List ℤ → List ℤ → ℕ → ℤ
@@ -28,24 +28,22 @@ link c j l =
     allowed-here s.rule s.col.now s.fa s.row.now s.fb s.x.now s.i j l
     ∙ rw (col-of 0 s.fb.order s.i j l, c.is_whole_row-whole.ensures, c.magnitude_sums_at.ensures)
 
-abbrev P : In-loop-j → ℕ
-P c = c.args.i * c.args.fb.order + c.loop-j.j
-
 -- the element, which this row has not written yet
-diagonal : (c : In-loop-j) → to_z w32 (of_z w32 (at c.loop-j.x (P c))) ≡ at c.args.x.now (P c)
-diagonal c =
-    let l = c.loop-j in
-    reads w32 (l.invariant.2.small (P c)) tt
-    ∙ row-ahead _ c.args.fb.order c.args.i l.j c.args.x.now l.invariant.1
+unwritten :
+    (step : List ℤ → ℕ → ℤ) (n i j : ℕ) (x : List ℤ) {y : List ℤ} →
+    y ≡ in_place step (in_row n i) j x → Bounded most_allowance y →
+    to_z w32 (of_z w32 (at y (i * n + j))) ≡ at x (i * n + j)
+unwritten step n i j x e b = reads w32 (b.small (i * n + j)) tt ∙ row-ahead step n i j x e
 
 pub allowed_at-z-requires : goal.allowed_at-z-requires
 allowed_at-z-requires c =
-    let i = (goal.at.allowed_at-z-requires c).In-loop-j in
-    rw (c.magnitude_sums_at.ensures, diagonal i) (
+    let a = c.args in
+    let l = c.loop-j in
+    rw (c.magnitude_sums_at.ensures, unwritten _ a.fb.order a.i l.j a.x.now l.invariant.1 l.invariant.2) (
       c.requires.1,
       c.loop-j-test.true,
-      magnitude-sums-small c.requires.0 c.args.i c.requires.2 c.args.fb.order c.requires.3,
-      c.requires.3.small (P i),
+      magnitude-sums-small c.requires.0 a.i c.requires.2 a.fb.order c.requires.3,
+      c.requires.3.small (a.i * a.fb.order + l.j),
     )
 
 value :
@@ -54,8 +52,13 @@ value :
     ≡ G c.args.rule c.args.row.now c.args.fb c.is_whole_row-whole.result c.magnitude_sums_at.new.v c.args.x.now
       (c.args.i * c.args.fb.order + c.loop-j.j)
 value c =
+    let a = c.args in
+    let l = c.loop-j in
     back w64 _ c.allowed_at-z.type_inv ∙ c.allowed_at-z.ensures
-    ∙ rw (diagonal c.before.before, col-of 0 c.args.fb.order c.args.i c.loop-j.j c.loop-j-test.true)
+    ∙ rw (
+      unwritten _ a.fb.order a.i l.j a.x.now l.invariant.1 l.invariant.2,
+      col-of 0 a.fb.order a.i l.j c.loop-j-test.true,
+    )
 
 pub returns-then-not-is_within : goal.returns-then-not-is_within
 returns-then-not-is_within c =
@@ -72,23 +75,16 @@ returns-then-not-is_within c =
       keeps = ap length c.loop-j.invariant.1 ∙ length-in-place _ _ c.loop-j.j _;
     }
 
-held :
-    (c : Else-not-is_within) →
-    Within most_allowance
-    (G c.args.rule c.args.row.now c.args.fb c.is_whole_row-whole.result c.magnitude_sums_at.new.v c.args.x.now
-    (c.args.i * c.args.fb.order + c.loop-j.j))
-held c = test-yes most_allowance (value c.before.before) c.is_within.ensures c.if-not-is_within.false
-
 pub loop-j-preserved : goal.loop-j-preserved
 unfolding in_place
 loop-j-preserved c =
-    let a = goal.at.loop-j-preserved c in
     let l = c.loop-j in
-    let h = held a.Else-not-is_within in
+    let v = value (goal.at.loop-j-preserved c).After-allowed_at-z in
+    let h = test-yes most_allowance v c.is_within.ensures c.if-not-is_within.false in
     (
       omega arith,
-      rw (add-one, value a.After-allowed_at-z, reads w32 h tt, l.invariant.1),
-      rw (value a.After-allowed_at-z, reads w32 h tt) (bounded-set l.x (P a.In-loop-j) l.invariant.2 h),
+      rw (add-one, v, reads w32 h tt, l.invariant.1),
+      rw (v, reads w32 h tt) (bounded-set l.x (c.args.i * c.args.fb.order + l.j) l.invariant.2 h),
     )
 
 pub returns : goal.returns
