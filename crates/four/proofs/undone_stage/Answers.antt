@@ -14,7 +14,6 @@ use Rattle.rules.specs.declared.Rule.{Rule}
 use Rattle.four.proofs.undone_stage.Goals as goal
 use Rattle.four.proofs.undone_stage.Goals.{In-Single, Start}
 
--- Each arm is the stage of its kind.
 -- the rule of the two tests
 abbrev K : Start → Rule
 K s = rule_by s.args.down s.args.even
@@ -37,8 +36,9 @@ lower-requires c =
 
 pub returns-in-Lower : goal.returns-in-Lower
 returns-in-Lower c =
-    became-is (lower-is (K (goal.at.returns-in-Lower c).Start) true c.args.sheet.now c.args.i c.args.y (len (goal.at.returns-in-Lower c).Start)
-    (sym c.kind_at-kind.ensures ∙ c.in-Lower.is)) c.lower.ensures
+    let s = (goal.at.returns-in-Lower c).Start in
+    became-is (lower-is (K s) true c.args.sheet.now c.args.i c.args.y (len s) (sym c.kind_at-kind.ensures ∙ c.in-Lower.is))
+    c.lower.ensures
 
 pub upper-requires : goal.upper-requires
 unfolding signs_at entries_of triangle
@@ -50,27 +50,33 @@ upper-requires c =
 
 pub returns-in-Upper : goal.returns-in-Upper
 returns-in-Upper c =
-    became-is (upper_is (K (goal.at.returns-in-Upper c).Start) true c.args.sheet.now c.args.i c.args.y (len (goal.at.returns-in-Upper c).Start)
-    (sym c.kind_at-kind.ensures ∙ c.in-Upper.is)) c.upper.ensures
+    let s = (goal.at.returns-in-Upper c).Start in
+    became-is (upper_is (K s) true c.args.sheet.now c.args.i c.args.y (len s) (sym c.kind_at-kind.ensures ∙ c.in-Upper.is))
+    c.upper.ensures
 
 -- its kind, and its row
-kind : (c : In-Single) → kind_of (count c.args.sheet.now
-    c.args.i) ≡ Single
+kind : (c : In-Single) → kind_of (count c.args.sheet.now c.args.i) ≡ Single
 kind c = sym c.kind_at-kind.ensures ∙ c.in-Single.is
 
-row :
-    (c : In-Single) → let s = c.args in Seen s.sheet.now (Row 4) (s.i + 1)
+row : (c : In-Single) → Seen c.args.sheet.now (Row 4) (c.args.i + 1)
 row c = c.requires.0.body.row (kind c)
 
 pub count_at-requires : goal.count_at-requires
-count_at-requires c =     row_counts (row (goal.at.count_at-requires c).In-Single)
+count_at-requires c = row_counts (row (goal.at.count_at-requires c).In-Single)
 
 pub single-requires : goal.single-requires
 unfolding signs_at entries_of
 single-requires c =
-    (factor-in c.requires.0 Single (λ (goal.at.single-requires c).In-Single. never (cc)) (kind (goal.at.single-requires c).In-Single), rw c.count_at.ensures (row_is (row (goal.at.single-requires c).In-Single)).1, c.requires.1)
+    let w = (goal.at.single-requires c).In-Single in
+    (
+      factor-in c.requires.0 Single (λ e. never (cc)) (kind w),
+      rw c.count_at.ensures (row_is (row w)).1,
+      c.requires.1,
+    )
 
 pub returns-in-Single : goal.returns-in-Single
 returns-in-Single c =
-    became-is (single-is (K (goal.at.returns-in-Single c).Start) true c.args.sheet.now c.args.i c.args.y (len (goal.at.returns-in-Single c).Start) (kind (goal.at.returns-in-Single c).In-Single) _
-    (rw c.count_at.ensures (row_is (row (goal.at.returns-in-Single c).In-Single)).1) (sym c.count_at.ensures)) c.single.ensures
+    let s = (goal.at.returns-in-Single c).Start in
+    let w = (goal.at.returns-in-Single c).In-Single in
+    became-is (single-is (K s) true c.args.sheet.now c.args.i c.args.y (len s) (kind w) _
+    (rw c.count_at.ensures (row_is (row w)).1) (sym c.count_at.ensures)) c.single.ensures

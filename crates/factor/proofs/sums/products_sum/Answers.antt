@@ -10,5 +10,5 @@ with_term-sum-requires c =
     let a = c.requires.entries l.j (omega arith) in
     let x = c.requires.numbers l.j (omega arith) in
     let t = sum-small c.requires l.j l.invariant.0 in
-    rw (l.invariant.1, reads w64 t tt, reads w32 a tt, reads w32 x tt)
+    rw (l.invariant.1, reads w32 a tt, reads w32 x tt)
     (fits a tt, fits x tt, fits (within-* a x) tt, fits (within-+ t (within-* a x)) tt)

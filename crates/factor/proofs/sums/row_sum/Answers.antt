@@ -10,9 +10,8 @@ use Rattle.factor.proofs.sums.row_sum.Goals.{After-products_sum_from}
 
 pub products_sum_from-requires : goal.products_sum_from-requires
 products_sum_from-requires c =
-    let w = c.products_sum_from-arg-2-1.given.0 in
     rw (part-is (c.args.r.at + c.args.r.left) c.args.sheet.now)
-    (let b = c.requires.0.right in omega arith, right-terms c.requires.0 c.requires.1 w)
+    (let b = c.requires.0.right in omega arith, right-terms c.requires.0 c.requires.1 (omega arith))
 
 value :
     (c : After-products_sum_from) →
@@ -23,15 +22,19 @@ value c =
     (back w64 _ c.products_sum.type_inv ∙ (rw (part-is c.args.r.at c.args.sheet.now) at c.products_sum.ensures))
     (back w64 _ c.products_sum_from.type_inv
     ∙ (rw (part-is (c.args.r.at + c.args.r.left) c.args.sheet.now) at c.products_sum_from.ensures))
-    ∙ along-runs c.requires.0 c.requires.1 c.products_sum-arg-2-1.given.0
+    ∙ along-runs c.requires.0 c.requires.1 (omega arith)
 
-small : (c : After-products_sum_from) → Within (32 * (most_entry * most_allowance)) (along (at c.args.sheet.now) c.args.r c.args.m c.args.x.now)
+small :
+    (c : After-products_sum_from) →
+    Within (32 * (most_entry * most_allowance)) (along (at c.args.sheet.now) c.args.r c.args.m c.args.x.now)
 small c = along-small c.requires.0 c.requires.1
 
 pub overflow_add-result : goal.overflow_add-result
 overflow_add-result c =
-        rw (value (goal.at.overflow_add-result c).After-products_sum_from) (fits (small (goal.at.overflow_add-result c).After-products_sum_from) tt)
+    let a = (goal.at.overflow_add-result c).After-products_sum_from in
+    rw (value a) (fits (small a) tt)
 
 pub returns : goal.returns
 returns c =
-        rw (value (goal.at.returns c).After-products_sum_from) (reads w64 (small (goal.at.returns c).After-products_sum_from) tt)
+    let a = (goal.at.returns c).After-products_sum_from in
+    rw (value a) (reads w64 (small a) tt)

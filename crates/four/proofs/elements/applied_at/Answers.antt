@@ -21,8 +21,7 @@ value :
     (c : After-applied) →
     let a = c.args in
     to_z w64 (of_z w64 c.applied.result)
-    ≡ element_by (rule_by a.down a.even) a.sheet.now a.p false a.m a.a a.b a.c a.d a.t10
-    a.v.block
+    ≡ element_by (rule_by a.down a.even) a.sheet.now a.p false a.m a.a a.b a.c a.d a.x a.v.block
 unfolding element_by
 value c =
     let h = c.requires in
@@ -37,5 +36,5 @@ value c =
 
 pub returns : goal.returns
 returns c =
-    let a = c.args in turned_as
-    (ap (set a.v.block a.m) (value (goal.at.returns c).After-applied)) c.with_number.ensures
+    let a = c.args in
+    turned_as (ap (set a.v.block a.m) (value (goal.at.returns c).After-applied)) c.with_number.ensures

@@ -37,8 +37,9 @@ unfolding row_sum sum
 value c =
     let x = c.args.x.now in
     back w64 _ c.products_sum.type_inv ∙ c.products_sum.ensures
-    ∙ ap (λ (w : List ℤ). sum 4 (λ j. at w j *ℤ at x j)) (read c.before)
+    ∙ ap (λ (w : List ℤ). sum 4 (λ j. at w j *ℤ at x j)) (read c.before.before.before)
 
 pub round_line-requires : goal.round_line-requires
 round_line-requires c =
-    rw (value (goal.at.round_line-requires c).After-products_sum) (within-le (omega arith) (row-sum-small c.requires.0 c.requires.1 (rule_by c.args.down c.args.even)))
+    rw (value (goal.at.round_line-requires c).After-products_sum)
+    (within-le (omega arith) (row-sum-small c.requires.0 c.requires.1 (rule_by c.args.down c.args.even)))

@@ -24,8 +24,7 @@ value :
     (c : After-undone) →
     let a = c.args in
     to_z w64 (of_z w64 c.undone.result)
-    ≡ element_by (rule_by a.down a.even) a.sheet.now a.p true a.m a.a a.b a.c a.d a.t10
-    a.v.block
+    ≡ element_by (rule_by a.down a.even) a.sheet.now a.p true a.m a.a a.b a.c a.d a.y a.v.block
 unfolding element_by
 value c =
     let h = c.requires in
@@ -45,5 +44,5 @@ with_number-requires c =
 
 pub returns : goal.returns
 returns c =
-    let a = c.args in turned_as
-    (ap (set a.v.block a.m) (value (goal.at.returns c).After-undone)) c.with_number.ensures
+    let a = c.args in
+    turned_as (ap (set a.v.block a.m) (value (goal.at.returns c).After-undone)) c.with_number.ensures

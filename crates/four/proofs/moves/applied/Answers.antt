@@ -27,5 +27,6 @@ returns c =
       c.place-c.ensures.0,
       c.place-d.ensures.0,
     )
-    (ap (fill 4 (λ e. at c.args.x (count c.args.sheet.now (c.args.p + e)))) (sym (four-list c.args.x (len (goal.at.returns c).Start)))))
+    (ap (fill 4 (λ e. at c.args.x (count c.args.sheet.now (c.args.p + e))))
+    (sym (four-list c.args.x (len (goal.at.returns c).Start)))))
     (moved-bounded false 4 (λ m. count c.args.sheet.now (c.args.p + m)) h)

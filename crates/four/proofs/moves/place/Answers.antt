@@ -3,7 +3,7 @@ use Rattle.laws.specs.Accepted.{place_is, place-counts}
 use Rattle.four.proofs.moves.place.Goals as goal
 
 pub count_at-requires : goal.count_at-requires
-count_at-requires c =     place-counts c.requires
+count_at-requires c = place-counts c.requires
 
 pub returns : goal.returns
-returns c =     (c.count_at.ensures, rw c.count_at.ensures (place_is c.requires).1)
+returns c = (c.count_at.ensures, rw c.count_at.ensures (place_is c.requires).1)

@@ -6,7 +6,7 @@ use Rattle.joint.specs.Sums.{across}
 use Rattle.rules.specs.Numbers.{at}
 use Rattle.whole.specs.Machine.{reads, back, within-le}
 use Rattle.joint.proofs.elements.rounded_rest_at.Goals as goal
-use Rattle.joint.proofs.elements.rounded_rest_at.Goals.{After-diagonal_of, After-sign_at, After-whole_sum-s, Start}
+use Rattle.joint.proofs.elements.rounded_rest_at.Goals.{After-diagonal_of, After-sign_at, After-whole_sum-s}
 
 sign : (c : After-sign_at) →
     to_z w32 (of_z w32 c.sign_at.result) ≡ sign_at c.args.row.now c.args.f
@@ -18,15 +18,14 @@ diagonal : (c : After-diagonal_of) →
     (sign_at c.args.row.now c.args.f c.args.j)
 diagonal c = back w32 _ c.diagonal_of.type_inv ∙ c.diagonal_of.ensures ∙ ap diagonal_of (sign c.before)
 
-abbrev J : Start → ℤ
-J s =
-    across s.args.row.now (row_of s.args.f s.args.j) s.args.j
-    (diagonal_of (sign_at s.args.row.now s.args.f s.args.j)) (at s.args.v.now)
-
-value : (c : After-whole_sum-s) → to_z w64 (of_z w64 c.whole_sum-s.result) ≡ J c.before.before.before.before
+value :
+    (c : After-whole_sum-s) →
+    to_z w64 (of_z w64 c.whole_sum-s.result)
+    ≡ across c.args.row.now (row_of c.args.f c.args.j) c.args.j
+      (diagonal_of (sign_at c.args.row.now c.args.f c.args.j)) (at c.args.v.now)
 value c =
     back w64 _ c.whole_sum-s.type_inv ∙ c.whole_sum-s.ensures
-    ∙ rw (diagonal c.before, c.row_of.ensures, reads w64 (c.requires.2.small c.args.j) tt)
+    ∙ rw (diagonal c.before.before, c.row_of.ensures, reads w64 (c.requires.2.small c.args.j) tt)
 
 pub round_joint-requires : goal.round_joint-requires
 round_joint-requires c =

@@ -16,16 +16,24 @@ small s = within-- (s.requires.2.small s.args.m) (within-* s.requires.1 s.requir
 pub without-requires : goal.without-requires
 without-requires c =
     rw (reads w64 (c.requires.2.small c.args.m) tt, reads w32 c.requires.1 tt, reads w32 c.requires.3 tt)
-    (fits c.requires.1 tt, fits c.requires.3 tt, fits (within-* c.requires.1 c.requires.3) tt, fits (small (goal.at.without-requires c).Start) tt)
+    (
+      fits c.requires.1 tt,
+      fits c.requires.3 tt,
+      fits (within-* c.requires.1 c.requires.3) tt,
+      fits (small (goal.at.without-requires c).Start) tt,
+    )
 
-left : (c : After-without) → to_z w64 (of_z w64 c.without.result) ≡ W c.before
+left :
+    (c : After-without) →
+    to_z w64 (of_z w64 c.without.result) ≡ at c.args.v.now c.args.m -ℤ (c.args.other *ℤ c.args.x)
 left c =
     back w64 _ c.without.type_inv ∙ c.without.ensures
     ∙ rw (reads w64 (c.requires.2.small c.args.m) tt, reads w32 c.requires.1 tt, reads w32 c.requires.3 tt)
 
 pub whole_sum-requires : goal.whole_sum-requires
 whole_sum-requires c =
-    rw (left (goal.at.whole_sum-requires c).After-without, reads w32 c.requires.0.small tt) (c.requires.0, c.requires.2, small (goal.at.whole_sum-requires c).Start)
+    rw (left (goal.at.whole_sum-requires c).After-without, reads w32 c.requires.0.small tt)
+    (c.requires.0, c.requires.2, small (goal.at.whole_sum-requires c).Start)
 
 pub returns : goal.returns
 returns c =

@@ -10,5 +10,5 @@ with_sum-sum-requires c =
     let a = c.requires.entries l.j (omega arith) in
     let v = c.requires.numbers.small (c.args.k + l.j) in
     let t = wide-small c.requires l.j l.invariant.0 in
-    rw (l.invariant.1, reads w64 t tt, reads w32 a tt, reads w64 v tt)
+    rw (l.invariant.1, reads w32 a tt, reads w64 v tt)
     (fits a tt, fits (within-* a v) tt, fits (within-+ t (within-* a v)) tt)
