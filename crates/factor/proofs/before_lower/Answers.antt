@@ -3,4 +3,4 @@ use Rattle.factor.specs.SumBounds.{half-triangle}
 use Rattle.factor.proofs.before_lower.Goals as goal
 
 pub returns : goal.returns
-returns c =     half-triangle c.args.m
+returns c = half-triangle c.args.m

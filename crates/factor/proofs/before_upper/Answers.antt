@@ -4,7 +4,7 @@ use Rattle.factor.specs.SumBounds.{above-triangle}
 use Rattle.factor.proofs.before_upper.Goals as goal
 
 pub overflow_sub-result-2 : goal.overflow_sub-result-2
-overflow_sub-result-2 c =     omega (arith, c.before_lower.ensures, above-triangle c.args.n c.args.m (omega arith))
+overflow_sub-result-2 c = omega (arith, c.before_lower.ensures, above-triangle c.args.n c.args.m (omega arith))
 
 pub returns : goal.returns
-returns c =     omega (arith, c.before_lower.ensures, above-triangle c.args.n c.args.m (omega arith))
+returns c = omega (arith, c.before_lower.ensures, above-triangle c.args.n c.args.m (omega arith))

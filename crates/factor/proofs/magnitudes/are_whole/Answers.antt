@@ -30,4 +30,4 @@ loop-j-preserved c =
     )
 
 pub returns : goal.returns
-returns c =     sym (c.loop-j.invariant.1 ∙ whole-end _ _ _ c.loop-j.j (omega arith))
+returns c = sym (c.loop-j.invariant.1 ∙ whole-end _ _ _ c.loop-j.j (omega arith))

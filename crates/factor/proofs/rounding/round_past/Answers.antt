@@ -31,7 +31,7 @@ small c =
 
 pub overflow_add-result : goal.overflow_add-result
 overflow_add-result c =
-        rw (told (goal.at.overflow_add-result c).After-lift-a, to_z-of_z c.ranges.s) (fits (small (goal.at.overflow_add-result c).After-lift-a) tt)
+    rw (told (goal.at.overflow_add-result c).After-lift-a, to_z-of_z c.ranges.s) (fits (small (goal.at.overflow_add-result c).After-lift-a) tt)
 
 pub returns : goal.returns
 returns c =

@@ -18,4 +18,4 @@ flips c = sign_below _ c.requires.0 (rw (to_z-of_z c.ranges.d) at c.if-d-lt0.tru
 
 pub returns-then-d-lt0 : goal.returns-then-d-lt0
 returns-then-d-lt0 c =
-        rw (value (goal.at.returns-then-d-lt0 c).Start, sym (flips (goal.at.returns-then-d-lt0 c).Then-d-lt0)) (to_z-of_z c.requires.3)
+    rw (value (goal.at.returns-then-d-lt0 c).Start, sym (flips (goal.at.returns-then-d-lt0 c).Then-d-lt0)) (to_z-of_z c.requires.3)

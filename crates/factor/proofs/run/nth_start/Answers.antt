@@ -9,7 +9,7 @@ use Rattle.factor.proofs.run.nth_start.Goals.{After-nth_stage}
 
 -- The table's entry is the start of that factor, which stands in the sheet.
 pub count_at-requires : goal.count_at-requires
-count_at-requires c =     count-counts c.requires.0
+count_at-requires c = count-counts c.requires.0
 
 -- the stage in turn is one of at most 32
 below : (c : After-nth_stage) → c.nth_stage.result < count c.args.sheet.now 1
@@ -20,10 +20,10 @@ short : (c : After-nth_stage) → c.nth_stage.result < 32
 short c = let m = (accepted-count c.requires.0).most in omega (arith, below c)
 
 pub offset_bounds-starts-nth_stage : goal.offset_bounds-starts-nth_stage
-offset_bounds-starts-nth_stage c =     let h = short (goal.at.offset_bounds-starts-nth_stage c).After-nth_stage in omega arith
+offset_bounds-starts-nth_stage c = let h = short (goal.at.offset_bounds-starts-nth_stage c).After-nth_stage in omega arith
 
 pub bounds-starts-nth_stage : goal.bounds-starts-nth_stage
-bounds-starts-nth_stage c =     short (goal.at.bounds-starts-nth_stage c).After-nth_stage
+bounds-starts-nth_stage c = short (goal.at.bounds-starts-nth_stage c).After-nth_stage
 
 there :
     (c : After-nth_stage) →

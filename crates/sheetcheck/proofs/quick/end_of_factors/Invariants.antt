@@ -8,4 +8,4 @@ use Rattle.sheetcheck.proofs.quick.end_of_factors.Given as goal
 abbrev pub invariant-loop-f : goal.invariant-loop-f
 invariant-loop-f l =
     (l.f ≤ l.many) × (l.n ≡ count l.sheet 0) × (l.many ≡ count l.sheet 1) × (length l.starts ≡ 32)
-        × FactorsMet l.sheet l.f l.i l.starts
+    × FactorsMet l.sheet l.f l.i l.starts
