@@ -12,6 +12,3 @@ invariant-loop-j l =
     × Undoing (rule_by l.down l.even) l.col l.fa l.row l.fb l.i l.from l.j l.initial.x l.x l.v
     × (l.p ≡ (row_of l.fb l.j).at)
     × (l.last ≡ recent_of l.v (λ t. t) l.j)
-
-abbrev pub decreases-loop-j : goal.decreases-loop-j
-decreases-loop-j l = l.to - l.j
