@@ -10,7 +10,7 @@ use Rattle.joint.specs.Triangles.{total_of, applied_in, lower-at, lower-next, ap
 use Rattle.laws.specs.Tests.{apart}
 use Rattle.rules.specs.Numbers.{bound, at}
 use Rattle.whole.specs.Diff.{Within}
-use Rattle.whole.specs.Machine.{fits, reads, back}
+use Rattle.whole.specs.Machine.{reads, back}
 use Rattle.trianglerows.proofs.applied.apply_lower.Goals as goal
 use Rattle.trianglerows.proofs.applied.apply_lower.Goals.{After-applied_whole-z, After-before_lower, After-lower_total-s, After-sign_at, Else-not-is_within, In-loop-j, Start}
 
@@ -28,8 +28,9 @@ overflow_add-p c =
 pub loop-j-init : goal.loop-j-init
 unfolding in_place
 loop-j-init c =
+    let g = goal.at.loop-j-init c in
     let z : c.args.from - c.args.from ≡ 0 = omega arith in
-    (omega arith, (let a = c.requires.2 in omega arith), rw z, c.requires.0.4, first-at (goal.at.loop-j-init c).After-before_lower)
+    (omega arith, (let a = c.requires.2 in omega arith), rw z, c.requires.0.4, first-at g.After-before_lower)
 
 -- the element in turn is one of the row
 inside : (c : In-loop-j) → c.loop-j.j < c.args.f.order

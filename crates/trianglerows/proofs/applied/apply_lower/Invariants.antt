@@ -6,7 +6,7 @@ use Rattle.factor.specs.Rounding.{rule_by}
 use Rattle.factor.specs.SumBounds.{Bounded}
 use Rattle.joint.specs.RowsInPlace.{onward}
 use Rattle.joint.specs.Triangles.{applied_in}
-use Rattle.rules.specs.Numbers.{bound, at}
+use Rattle.rules.specs.Numbers.{bound}
 use Rattle.trianglerows.proofs.applied.apply_lower.Given as goal
 
 abbrev pub invariant-loop-j : goal.invariant-loop-j

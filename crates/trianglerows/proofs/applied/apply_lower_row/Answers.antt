@@ -13,7 +13,8 @@ sign c = back w32 _ c.sign_at-d.type_inv ∙ c.sign_at-d.ensures
 
 pub apply_lower_elements-requires : goal.apply_lower_elements-requires
 apply_lower_elements-requires c =
-    (asks-run c.requires.0 refl (sign (goal.at.apply_lower_elements-requires c).After-sign_at-d) c.lower_sums.ensures, c.requires.1)
+    let g = goal.at.apply_lower_elements-requires c in
+    (asks-run c.requires.0 refl (sign g.After-sign_at-d) c.lower_sums.ensures, c.requires.1)
 
 pub returns : goal.returns
 returns c =

@@ -10,14 +10,15 @@ use Rattle.joint.specs.Triangles.{total_of, applied_in, upper-at, upper-next, ap
 use Rattle.laws.specs.Tests.{apart}
 use Rattle.rules.specs.Numbers.{bound, at}
 use Rattle.whole.specs.Diff.{Within}
-use Rattle.whole.specs.Machine.{fits, reads, back}
+use Rattle.whole.specs.Machine.{reads, back}
 use Rattle.trianglerows.proofs.applied.apply_upper.Goals as goal
 use Rattle.trianglerows.proofs.applied.apply_upper.Goals.{After-applied_whole-z, After-before_upper, After-sign_at, After-upper_total-s, Else-not-is_within, In-loop-j, Start}
 
 first-at : (c : After-before_upper) →
     c.args.f.entries + c.before_upper.result ≡ (row_of c.args.f c.args.from).at
 first-at c =
-    ap (λ (z : ℕ). c.args.f.entries + z) (c.before_upper.ensures ∙ rw c.requires.2) ∙ sym (upper-at c.args.f c.args.from c.requires.1)
+    ap (λ (z : ℕ). c.args.f.entries + z) (c.before_upper.ensures ∙ rw c.requires.2)
+    ∙ sym (upper-at c.args.f c.args.from c.requires.1)
 
 pub overflow_add-p : goal.overflow_add-p
 overflow_add-p c =
@@ -28,8 +29,9 @@ overflow_add-p c =
 pub loop-j-init : goal.loop-j-init
 unfolding in_place
 loop-j-init c =
+    let g = goal.at.loop-j-init c in
     let z : c.args.from - c.args.from ≡ 0 = omega arith in
-    (omega arith, (let a = c.requires.3 in omega arith), rw z, c.requires.0.4, first-at (goal.at.loop-j-init c).After-before_upper)
+    (omega arith, (let a = c.requires.3 in omega arith), rw z, c.requires.0.4, first-at g.After-before_upper)
 
 -- the element in turn is one of the row
 inside : (c : In-loop-j) → c.loop-j.j < c.args.f.order

@@ -13,33 +13,33 @@ sign : (c : After-sign_at-d) →
 sign c = back w32 _ c.sign_at-d.type_inv ∙ c.sign_at-d.ensures
 
 pub apply_upper-requires : goal.apply_upper-requires
-apply_upper-requires c =
-    (
-      asks-run c.requires.0 (sym c.requires.2) (sign (goal.at.apply_upper-requires c).After-sign_at-d) c.upper_sums.ensures,
-      c.requires.1,
-      sym c.requires.2,
-      omega arith,
-      omega (arith, c.requires.2),
-    )
+apply_upper-requires c = (
+  asks-run c.requires.0 (sym c.requires.2) (sign (goal.at.apply_upper-requires c).After-sign_at-d) c.upper_sums.ensures,
+  c.requires.1,
+  sym c.requires.2,
+  omega arith,
+  omega (arith, c.requires.2),
+)
 
 pub returns-then-even : goal.returns-then-even
 returns-then-even c =
+    let g = goal.at.returns-then-even c in
     rw c.if-even.true
-    (run_row c.requires.0 (sym c.requires.2) (sign (goal.at.returns-then-even c).After-sign_at-d) c.upper_sums.ensures (rule_by c.args.down true)
+    (run_row c.requires.0 (sym c.requires.2) (sign g.After-sign_at-d) c.upper_sums.ensures (rule_by c.args.down true)
     (run-all _ 4 c.requires.2 c.apply_upper.ensures))
 
 pub apply_upper-requires-2 : goal.apply_upper-requires-2
-apply_upper-requires-2 c =
-    (
-      asks-run c.requires.0 (sym c.requires.2) (sign (goal.at.apply_upper-requires-2 c).After-sign_at-d) c.upper_sums.ensures,
-      c.requires.1,
-      sym c.requires.2,
-      omega arith,
-      omega (arith, c.requires.2),
-    )
+apply_upper-requires-2 c = (
+  asks-run c.requires.0 (sym c.requires.2) (sign (goal.at.apply_upper-requires-2 c).After-sign_at-d) c.upper_sums.ensures,
+  c.requires.1,
+  sym c.requires.2,
+  omega arith,
+  omega (arith, c.requires.2),
+)
 
 pub returns : goal.returns
 returns c =
+    let g = goal.at.returns c in
     rw c.if-even.false
-    (run_row c.requires.0 (sym c.requires.2) (sign (goal.at.returns c).After-sign_at-d) c.upper_sums.ensures (rule_by c.args.down false)
+    (run_row c.requires.0 (sym c.requires.2) (sign g.After-sign_at-d) c.upper_sums.ensures (rule_by c.args.down false)
     (run-all _ 4 c.requires.2 c.apply_upper-2.ensures))

@@ -13,7 +13,8 @@ sign c = back w32 _ c.sign_at-d.type_inv ∙ c.sign_at-d.ensures
 
 pub apply_upper_elements-requires : goal.apply_upper_elements-requires
 apply_upper_elements-requires c =
-    (asks-run c.requires.0 refl (sign (goal.at.apply_upper_elements-requires c).After-sign_at-d) c.upper_sums.ensures, c.requires.1)
+    let g = goal.at.apply_upper_elements-requires c in
+    (asks-run c.requires.0 refl (sign g.After-sign_at-d) c.upper_sums.ensures, c.requires.1)
 
 pub returns : goal.returns
 returns c =

@@ -51,7 +51,8 @@ sum_ending-requires c =
     )
 
 entries : (s : Start) →
-    sum s.args.j (λ t. at s.args.row.now (s.args.p + t) *ℤ at s.args.v.now (0 + t)) ≡ entries_sum s.args.row.now (row_of s.args.f s.args.j) s.args.j (at s.args.v.now)
+    sum s.args.j (λ t. at s.args.row.now (s.args.p + t) *ℤ at s.args.v.now (0 + t))
+    ≡ entries_sum s.args.row.now (row_of s.args.f s.args.j) s.args.j (at s.args.v.now)
 entries s = lower-entries s.args.f s.args.j s.requires.1 s.requires.2 s.args.row.now s.args.v.now
 
 either_way : (o a : ℤ) → o +ℤ a ≡ a +ℤ o

@@ -83,7 +83,8 @@ turn c = lower-turn c.args.fb c.loop-j.j c.requires.1
 
 -- so it is what it was
 was : (c : In-loop-j) → let a = c.args in let l = c.loop-j in
-    undone_from (rule_by a.down a.even) (total_of a.row.now a.fb l.j l.v) (D c) (sign_at a.row.now a.fb l.j) (at l.x (P c)) ≡ F c
+    undone_from (rule_by a.down a.even) (total_of a.row.now a.fb l.j l.v) (D c) (sign_at a.row.now a.fb l.j) (at l.x (P c))
+    ≡ F c
 was c = undoing-value c.requires.0 c.loop-j.invariant.1 (inside c) (inside c) (turn c)
 
 value : (c : After-undone_whole-z) →

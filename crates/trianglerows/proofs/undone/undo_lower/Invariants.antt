@@ -1,8 +1,7 @@
 -- The block is as the turns so far leave it, all of it is in bound, and v has the row's sums with what is recovered.
-use Rattle.std.proofs.Common.{◌≡◌, ◌-◌, ◌≤◌}
+use Rattle.std.proofs.Common.{◌≡◌, ◌≤◌}
 use Rattle.factor.specs.Layouts.{row_of}
 use Rattle.factor.specs.Rounding.{rule_by}
-use Rattle.rules.specs.Numbers.{at}
 use Rattle.trianglerows.specs.TrianglesUndone.{recent_of, Undoing}
 use Rattle.trianglerows.proofs.undone.undo_lower.Given as goal
 

@@ -58,7 +58,8 @@ many : (s : Start) → s.args.f.order - suc s.args.j ≡ s.args.m
 many s = let e = s.requires.3 in omega arith
 
 entries : (s : Start) →
-    sum s.args.m (λ t. at s.args.row.now (s.args.p + t) *ℤ at s.args.v.now (s.args.j + 1 + t)) ≡ entries_sum s.args.row.now (row_of s.args.f s.args.j) s.args.j (at s.args.v.now)
+    sum s.args.m (λ t. at s.args.row.now (s.args.p + t) *ℤ at s.args.v.now (s.args.j + 1 + t))
+    ≡ entries_sum s.args.row.now (row_of s.args.f s.args.j) s.args.j (at s.args.v.now)
 entries s = upper-entries s.args.f s.args.j s.requires.1 s.requires.2 (sym (many s)) s.args.row.now s.args.v.now
 
 either_way : (o a : ℤ) → o +ℤ a ≡ a +ℤ o
