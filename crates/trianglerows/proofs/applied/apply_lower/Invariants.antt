@@ -6,15 +6,13 @@ use Rattle.factor.specs.Rounding.{rule_by}
 use Rattle.factor.specs.SumBounds.{Bounded}
 use Rattle.joint.specs.RowsInPlace.{onward}
 use Rattle.joint.specs.Triangles.{applied_in}
-use Rattle.rules.specs.Numbers.{bound, at}
+use Rattle.rules.specs.Numbers.{bound}
 use Rattle.trianglerows.proofs.applied.apply_lower.Given as goal
 
 abbrev pub invariant-loop-j : goal.invariant-loop-j
 invariant-loop-j l =
     (l.from ≤ l.j) × (l.j ≤ l.to)
-    × (l.x ≡ in_place (applied_in (rule_by l.down l.even) l.row l.f (l.d) l.v l.k) (onward (λ u. l.k + u) l.from) (l.j - l.from) l.initial.x)
+    × (l.x ≡ in_place (applied_in (rule_by l.down l.even) l.row l.f l.d l.v l.k)
+    (onward (λ u. l.k + u) l.from) (l.j - l.from) l.initial.x)
     × Bounded bound l.x
     × (l.p ≡ (row_of l.f l.j).at)
-
-abbrev pub decreases-loop-j : goal.decreases-loop-j
-decreases-loop-j l = l.to - l.j

@@ -10,4 +10,5 @@ returns-then-is_written-2 c =
     let z = c.is_other-other.ensures w.0 in
     let first = rw (to_z-of_z c.ranges.d, not-false c.apply_lower-a.result.ok c.if-not-a.false) at c.apply_lower-a.ensures in
     rw (z.0, z.1)
-    (run-both _ 8 16 w.1 (omega arith) (run-all _ 8 refl first) (rw (to_z-of_z c.ranges.d) at c.apply_lower-then-is_written-2.ensures))
+    (run-both _ 8 16 w.1 (omega arith) (run-all _ 8 refl first)
+    (rw (to_z-of_z c.ranges.d) at c.apply_lower-then-is_written-2.ensures))

@@ -6,40 +6,38 @@ use Rattle.joint.specs.RowsInPlace.{run-all}
 use Rattle.joint.specs.Triangles.{asks-run, run_row}
 use Rattle.whole.specs.Machine.{back}
 use Rattle.trianglerows.proofs.applied.apply_lower_four.Goals as goal
-use Rattle.trianglerows.proofs.applied.apply_lower_four.Goals.{After-sign_at-d, Start}
+use Rattle.trianglerows.proofs.applied.apply_lower_four.Goals.{After-sign_at-d}
 
 sign : (c : After-sign_at-d) →
     to_z w32 (of_z w32 c.sign_at-d.result) ≡ sign_at c.args.col.now c.args.fa c.args.i
 sign c = back w32 _ c.sign_at-d.type_inv ∙ c.sign_at-d.ensures
 
 pub apply_lower-requires : goal.apply_lower-requires
-apply_lower-requires c =
-    let s = c.before in (
-      asks-run s.requires.0 (sym s.requires.2) (sign (goal.at.apply_lower-requires c).Start) c.lower_sums.ensures,
-      s.requires.1,
-      omega arith,
-      omega (arith, s.requires.2),
-    )
+apply_lower-requires c = (
+  asks-run c.requires.0 (sym c.requires.2) (sign (goal.at.apply_lower-requires c).After-sign_at-d) c.lower_sums.ensures,
+  c.requires.1,
+  omega arith,
+  omega (arith, c.requires.2),
+)
 
 pub returns-then-even : goal.returns-then-even
 returns-then-even c =
-    let s = c.before in
+    let g = goal.at.returns-then-even c in
     rw c.if-even.true
-    (run_row s.requires.0 (sym s.requires.2) (sign (goal.at.returns-then-even c).Start) c.lower_sums.ensures (rule_by s.args.down true)
-    (run-all _ 4 s.requires.2 c.apply_lower.ensures))
+    (run_row c.requires.0 (sym c.requires.2) (sign g.After-sign_at-d) c.lower_sums.ensures (rule_by c.args.down true)
+    (run-all _ 4 c.requires.2 c.apply_lower.ensures))
 
 pub apply_lower-requires-2 : goal.apply_lower-requires-2
-apply_lower-requires-2 c =
-    let s = c.before in (
-      asks-run s.requires.0 (sym s.requires.2) (sign (goal.at.apply_lower-requires-2 c).Start) c.lower_sums.ensures,
-      s.requires.1,
-      omega arith,
-      omega (arith, s.requires.2),
-    )
+apply_lower-requires-2 c = (
+  asks-run c.requires.0 (sym c.requires.2) (sign (goal.at.apply_lower-requires-2 c).After-sign_at-d) c.lower_sums.ensures,
+  c.requires.1,
+  omega arith,
+  omega (arith, c.requires.2),
+)
 
 pub returns : goal.returns
 returns c =
-    let s = c.before in
+    let g = goal.at.returns c in
     rw c.if-even.false
-    (run_row s.requires.0 (sym s.requires.2) (sign (goal.at.returns c).Start) c.lower_sums.ensures (rule_by s.args.down false)
-    (run-all _ 4 s.requires.2 c.apply_lower-2.ensures))
+    (run_row c.requires.0 (sym c.requires.2) (sign g.After-sign_at-d) c.lower_sums.ensures (rule_by c.args.down false)
+    (run-all _ 4 c.requires.2 c.apply_lower-2.ensures))

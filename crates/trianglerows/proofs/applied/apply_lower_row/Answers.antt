@@ -5,7 +5,7 @@ use Rattle.joint.specs.Elements.{sign_at}
 use Rattle.joint.specs.Triangles.{asks-run, run_row}
 use Rattle.whole.specs.Machine.{back}
 use Rattle.trianglerows.proofs.applied.apply_lower_row.Goals as goal
-use Rattle.trianglerows.proofs.applied.apply_lower_row.Goals.{After-sign_at-d, Else-n-eq4}
+use Rattle.trianglerows.proofs.applied.apply_lower_row.Goals.{After-sign_at-d}
 
 sign : (c : After-sign_at-d) →
     to_z w32 (of_z w32 c.sign_at-d.result) ≡ sign_at c.args.col.now c.args.fa c.args.i
@@ -13,11 +13,10 @@ sign c = back w32 _ c.sign_at-d.type_inv ∙ c.sign_at-d.ensures
 
 pub apply_lower_elements-requires : goal.apply_lower_elements-requires
 apply_lower_elements-requires c =
-    let s = c.before in
-    (asks-run s.requires.0 refl (sign (goal.at.apply_lower_elements-requires c).Else-n-eq4) c.lower_sums.ensures, s.requires.1)
+    let g = goal.at.apply_lower_elements-requires c in
+    (asks-run c.requires.0 refl (sign g.After-sign_at-d) c.lower_sums.ensures, c.requires.1)
 
 pub returns : goal.returns
 returns c =
-    let s = c.before in
-    run_row s.requires.0 refl (sign (goal.at.returns c).Else-n-eq4) c.lower_sums.ensures (rule_by s.args.down s.args.even)
+    run_row c.requires.0 refl (sign (goal.at.returns c).After-sign_at-d) c.lower_sums.ensures (rule_by c.args.down c.args.even)
     c.apply_lower_elements.ensures

@@ -10,18 +10,15 @@ use Rattle.joint.specs.Triangles.{total_of, applied_in, upper-at, upper-next, ap
 use Rattle.laws.specs.Tests.{apart}
 use Rattle.rules.specs.Numbers.{bound, at}
 use Rattle.whole.specs.Diff.{Within}
-use Rattle.whole.specs.Machine.{fits, reads, back}
+use Rattle.whole.specs.Machine.{reads, back}
 use Rattle.trianglerows.proofs.applied.apply_upper.Goals as goal
 use Rattle.trianglerows.proofs.applied.apply_upper.Goals.{After-applied_whole-z, After-before_upper, After-sign_at, After-upper_total-s, Else-not-is_within, In-loop-j, Start}
-
--- what the run was lent
-abbrev S : In-loop-j → Start
-S c = c.before.before.before
 
 first-at : (c : After-before_upper) →
     c.args.f.entries + c.before_upper.result ≡ (row_of c.args.f c.args.from).at
 first-at c =
-    ap (λ (z : ℕ). c.args.f.entries + z) (c.before_upper.ensures ∙ rw c.requires.2) ∙ sym (upper-at c.args.f c.args.from c.requires.1)
+    ap (λ (z : ℕ). c.args.f.entries + z) (c.before_upper.ensures ∙ rw c.requires.2)
+    ∙ sym (upper-at c.args.f c.args.from c.requires.1)
 
 pub overflow_add-p : goal.overflow_add-p
 overflow_add-p c =
@@ -32,84 +29,81 @@ overflow_add-p c =
 pub loop-j-init : goal.loop-j-init
 unfolding in_place
 loop-j-init c =
+    let g = goal.at.loop-j-init c in
     let z : c.args.from - c.args.from ≡ 0 = omega arith in
-    (omega arith, (let a = c.requires.3 in omega arith), rw z, c.requires.0.4, first-at (goal.at.loop-j-init c).After-before_upper)
+    (omega arith, (let a = c.requires.3 in omega arith), rw z, c.requires.0.4, first-at g.After-before_upper)
 
 -- the element in turn is one of the row
-inside : (c : In-loop-j) → c.loop-j.j < (S c).args.f.order
-inside c = let h = c.loop-j-test.true in let l = (S c).requires.4 in omega arith
+inside : (c : In-loop-j) → c.loop-j.j < c.args.f.order
+inside c = let h = c.loop-j-test.true in let l = c.requires.4 in omega arith
 
 -- its sum, its sign and its number
 total : (c : After-upper_total-s) →
-    to_z w64 (of_z w64 c.upper_total-s.result) ≡ total_of (S c.before).args.row.now (S c.before).args.f c.loop-j.j (S c.before).args.v.now
+    to_z w64 (of_z w64 c.upper_total-s.result) ≡ total_of c.args.row.now c.args.f c.loop-j.j c.args.v.now
 total c = back w64 _ c.upper_total-s.type_inv ∙ c.upper_total-s.ensures
 
-sign : (c : After-sign_at) →
-    to_z w32 (of_z w32 c.sign_at.result) ≡ sign_at (S c.before.before).args.row.now (S c.before.before).args.f c.loop-j.j
+sign : (c : After-sign_at) → to_z w32 (of_z w32 c.sign_at.result) ≡ sign_at c.args.row.now c.args.f c.loop-j.j
 sign c = back w32 _ c.sign_at.type_inv ∙ c.sign_at.ensures
 
 number : (c : In-loop-j) →
-    to_z w32 (of_z w32 (at c.loop-j.x ((S c).args.k + c.loop-j.j)))
-    ≡ at c.loop-j.x ((S c).args.k + c.loop-j.j)
+    to_z w32 (of_z w32 (at c.loop-j.x (c.args.k + c.loop-j.j))) ≡ at c.loop-j.x (c.args.k + c.loop-j.j)
 number c = reads w32 (c.loop-j.invariant.3.small _) tt
 
 pub applied_whole-z-requires : goal.applied_whole-z-requires
 applied_whole-z-requires c =
-    let s = S (goal.at.applied_whole-z-requires c).In-loop-j in
+    let g = goal.at.applied_whole-z-requires c in
     let l = c.loop-j in
-    rw (total (goal.at.applied_whole-z-requires c).After-upper_total-s, sign (goal.at.applied_whole-z-requires c).After-sign_at, number (goal.at.applied_whole-z-requires c).In-loop-j, to_z-of_z s.fits.d) (
-      rest-element-small s.requires.0.0 l.j (inside (goal.at.applied_whole-z-requires c).In-loop-j) s.requires.0.2,
-      s.requires.0.1,
-      s.requires.0.0.sign l.j (inside (goal.at.applied_whole-z-requires c).In-loop-j),
+    rw (total g.After-upper_total-s, sign g.After-sign_at, number g.In-loop-j, to_z-of_z c.ranges.d) (
+      rest-element-small c.requires.0.0 l.j (inside g.In-loop-j) c.requires.0.2,
+      c.requires.0.1,
+      c.requires.0.0.sign l.j (inside g.In-loop-j),
       l.invariant.3.small _,
     )
 
 -- what it becomes
 abbrev F : In-loop-j → ℤ
 F c =
-    let a = (S c).args in
-    applied_in (rule_by a.down a.even) a.row.now a.f (to_z w32 (of_z w32 a.d)) a.v.now a.k c.loop-j.x
-    (a.k + c.loop-j.j)
+    let a = c.args in
+    applied_in (rule_by a.down a.even) a.row.now a.f (to_z w32 (of_z w32 a.d)) a.v.now a.k c.loop-j.x (a.k + c.loop-j.j)
 
-value : (c : After-applied_whole-z) →
-    to_z w64 (of_z w64 c.applied_whole-z.result) ≡ F c.before.before.before
+value : (c : After-applied_whole-z) → to_z w64 (of_z w64 c.applied_whole-z.result) ≡ F c.before.before.before.before
 value c =
-    let a = (S c.before.before.before).args in
+    let a = c.args in
     let l = c.loop-j in
     back w64 _ c.applied_whole-z.type_inv ∙ c.applied_whole-z.ensures
-    ∙ rw (total c.before.before, sign c.before, number c.before.before.before)
-    (applied-from (rule_by a.down a.even) a.row.now a.f l.j (to_z w32 (of_z w32 a.d)) a.v.now
-    (at l.x (a.k + l.j))
-    ∙ sym (applied-in (rule_by a.down a.even) a.row.now a.f (to_z w32 (of_z w32 a.d)) a.v.now a.k l.j
-    l.x))
+    ∙ rw (total c.before.before.before, sign c.before.before, number c.before.before.before.before)
+    (applied-from (rule_by a.down a.even) a.row.now a.f l.j (to_z w32 (of_z w32 a.d)) a.v.now (at l.x (a.k + l.j))
+    ∙ sym (applied-in (rule_by a.down a.even) a.row.now a.f (to_z w32 (of_z w32 a.d)) a.v.now a.k l.j l.x))
 
 pub returns-then-not-is_within : goal.returns-then-not-is_within
 returns-then-not-is_within c =
-    let s = S (goal.at.returns-then-not-is_within c).In-loop-j in
+    let g = goal.at.returns-then-not-is_within c in
+    let a = c.args in
     let l = c.loop-j in
     record {
       through = λ e. apart (sym e);
       stopped = λ e.
-          rw (to_z-of_z s.fits.d) at
-          (run-stops _ (λ u. s.args.k + u) s.args.from s.args.to l.j s.args.x.now l.inv.0 c.loop-j-test.taken l.inv.2
-          (test-no bound (value (goal.at.returns-then-not-is_within c).After-applied_whole-z) c.is_within.ensures (c.if-not-is_within.true)));
-      keeps = ap length l.inv.2 ∙ length-in-place _ _ (l.j - s.args.from) _;
+          rw (to_z-of_z c.ranges.d) at
+          (run-stops _ (λ u. a.k + u) a.from a.to l.j a.x.now l.invariant.0 c.loop-j-test.true l.invariant.2
+          (test-no bound (value g.After-applied_whole-z) c.is_within.ensures c.if-not-is_within.true));
+      keeps = ap length l.invariant.2 ∙ length-in-place _ _ (l.j - a.from) _;
     }
 
-held : (c : Else-not-is_within) → Within bound (F (c.before.before.before.before.before))
-held c = test-yes bound (value c.before.before) c.is_within.ensures (c.if-not-is_within.false)
+held : (c : Else-not-is_within) → Within bound (F c.before.before.before.before.before.before)
+held c = test-yes bound (value c.before.before) c.is_within.ensures c.if-not-is_within.false
 
 pub loop-j-preserved : goal.loop-j-preserved
 loop-j-preserved c =
-    let s = S (goal.at.loop-j-preserved c).In-loop-j in
+    let g = goal.at.loop-j-preserved c in
+    let a = c.args in
     let l = c.loop-j in
-    let z = reads w32 (held (goal.at.loop-j-preserved c).Else-not-is_within) tt in (
-      (let a = l.inv.0 in omega arith),
-      (let h = c.loop-j-test.taken in omega arith),
-      rw (value (goal.at.loop-j-preserved c).After-applied_whole-z, z) (run-next _ (λ u. s.args.k + u) s.args.from l.j s.args.x.now l.inv.0
-          l.inv.2),
-      rw (value (goal.at.loop-j-preserved c).After-applied_whole-z, z) (bounded-set l.x (s.args.k + l.j) l.inv.3 (held (goal.at.loop-j-preserved c).Else-not-is_within)),
-      rw s.requires.2 (ap (λ (z : ℕ). z + (s.args.f.order - 1 - l.j)) l.inv.4 ∙ upper-next s.args.f l.j s.requires.1),
+    let h = held g.Else-not-is_within in
+    let z = reads w32 h tt in (
+      (let b = l.invariant.0 in omega arith),
+      (let b = c.loop-j-test.true in omega arith),
+      rw (value g.After-applied_whole-z, z) (run-next _ (λ u. a.k + u) a.from l.j a.x.now l.invariant.0 l.invariant.2),
+      rw (value g.After-applied_whole-z, z) (bounded-set l.x (a.k + l.j) l.invariant.3 h),
+      rw c.requires.2 (ap (λ (z : ℕ). z + (a.f.order - 1 - l.j)) l.invariant.4 ∙ upper-next a.f l.j c.requires.1),
     )
 
 pub returns : goal.returns

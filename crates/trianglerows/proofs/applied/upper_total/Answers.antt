@@ -25,7 +25,7 @@ many : (s : Start) → s.args.n - 1 - s.args.j ≡ s.args.f.order - suc s.args.j
 many s = let e = s.requires.2 in omega arith
 
 pub wide_sum-requires : goal.wide_sum-requires
-wide_sum-requires c =     rw (many (goal.at.wide_sum-requires c).Start) (run (goal.at.wide_sum-requires c).Start)
+wide_sum-requires c = rw (many (goal.at.wide_sum-requires c).Start) (run (goal.at.wide_sum-requires c).Start)
 
 sign : (c : After-sign_at) →
     to_z w32 (of_z w32 c.sign_at.result) ≡ sign_at c.args.row.now c.args.f
@@ -47,10 +47,12 @@ small c =
 
 pub with_diagonal-requires : goal.with_diagonal-requires
 with_diagonal-requires c =
+    let g = goal.at.with_diagonal-requires c in
     let v = c.requires.0.2.small c.args.j in
-    rw (sign (goal.at.with_diagonal-requires c).After-sign_at, reads w64 v tt) (small (goal.at.with_diagonal-requires c).After-wide_sum, c.requires.0.0.sign c.args.j c.requires.0.1, v)
+    rw (sign g.After-sign_at, reads w64 v tt) (small g.After-wide_sum, c.requires.0.0.sign c.args.j c.requires.0.1, v)
 
 pub returns : goal.returns
 returns c =
+    let g = goal.at.returns c in
     back w64 _ c.with_diagonal.type_inv ∙ c.with_diagonal.ensures
-    ∙ rw (sign (goal.at.returns c).After-sign_at, entries (goal.at.returns c).After-wide_sum, reads w64 (c.requires.0.2.small c.args.j) tt)
+    ∙ rw (sign g.After-sign_at, entries g.After-wide_sum, reads w64 (c.requires.0.2.small c.args.j) tt)

@@ -44,8 +44,9 @@ side_sums_with-requires c =
 
 pub returns : goal.returns
 returns c =
+    let g = goal.at.returns c in
     let h = c.requires.0 in
     c.side_sums_with.ensures
-    ∙ rw (diagonal (goal.at.returns c).After-diagonal_of)
-    (with-own h.0 h.1 h.3 h.2 (place (goal.at.returns c).After-before_upper) (c.args.f.order - 1 - c.args.i) ((c.args.i + 1) * c.args.n)
-    (upper-rest h.0 h.1 h.3 h.2 (place (goal.at.returns c).After-before_upper) c.requires.1 refl))
+    ∙ rw (diagonal g.After-diagonal_of)
+    (with-own h.0 h.1 h.3 h.2 (place g.After-before_upper) (c.args.f.order - 1 - c.args.i) ((c.args.i + 1) * c.args.n)
+    (upper-rest h.0 h.1 h.3 h.2 (place g.After-before_upper) c.requires.1 refl))

@@ -4,7 +4,7 @@ use Rattle.whole.specs.Machine.{reads}
 use Rattle.trianglerows.proofs.undone.left_of.Goals as goal
 
 pub returns-then-j-eq0 : goal.returns-then-j-eq0
-returns-then-j-eq0 c =     sym (recent-none _ _ c.if-j-eq0.true)
+returns-then-j-eq0 c = sym (recent-none _ _ c.if-j-eq0.true)
 
 pub returns : goal.returns
 returns c =

@@ -5,7 +5,7 @@ use Rattle.whole.specs.Machine.{reads}
 use Rattle.trianglerows.proofs.undone.right_of.Goals as goal
 
 pub returns-then-t-eq0 : goal.returns-then-t-eq0
-returns-then-t-eq0 c =     sym (recent-none _ _ c.if-t-eq0.true)
+returns-then-t-eq0 c = sym (recent-none _ _ c.if-t-eq0.true)
 
 pub returns : goal.returns
 returns c =

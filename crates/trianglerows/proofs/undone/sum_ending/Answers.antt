@@ -27,7 +27,8 @@ sum-small c = wide-small (fewer c.before) _ (le_refl _)
 
 pub overflow_add-own : goal.overflow_add-own
 overflow_add-own c =
-    rw (sum_is (goal.at.overflow_add-own c).After-wide_sum, to_z-of_z c.ranges.own) (fits (within-+ c.requires.1 (sum-small (goal.at.overflow_add-own c).After-wide_sum)) tt)
+    let g = goal.at.overflow_add-own c in
+    rw (sum_is g.After-wide_sum, to_z-of_z c.ranges.own) (fits (within-+ c.requires.1 (sum-small g.After-wide_sum)) tt)
 
 -- the last entry, and the sum that it meets
 entry : (c : Else-m-eq0) → Within most_entry (at c.args.a.now (c.args.p + (c.args.m - 1)))
@@ -40,16 +41,20 @@ latest c =
 
 pub with_sum-requires : goal.with_sum-requires
 with_sum-requires c =
+    let g = goal.at.with_sum-requires c in
     rw (
-      sum_is (goal.at.with_sum-requires c).After-wide_sum,
+      sum_is g.After-wide_sum,
       to_z-of_z c.ranges.own,
-      latest (goal.at.with_sum-requires c).Else-m-eq0,
-      reads w32 (entry (goal.at.with_sum-requires c).Else-m-eq0) tt,
-      reads w64 (within-+ c.requires.1 (sum-small (goal.at.with_sum-requires c).After-wide_sum)) tt,
+      latest g.Else-m-eq0,
+      reads w32 (entry g.Else-m-eq0) tt,
+      reads w64 (within-+ c.requires.1 (sum-small g.After-wide_sum)) tt,
     ) (
-      fits (entry (goal.at.with_sum-requires c).Else-m-eq0) tt,
-      fits (within-* (entry (goal.at.with_sum-requires c).Else-m-eq0) (c.requires.0.numbers.small _)) tt,
-      fits (within-+ (within-+ c.requires.1 (sum-small (goal.at.with_sum-requires c).After-wide_sum)) (within-* (entry (goal.at.with_sum-requires c).Else-m-eq0) (c.requires.0.numbers.small _))) tt,
+      fits (entry g.Else-m-eq0) tt,
+      fits (within-* (entry g.Else-m-eq0) (c.requires.0.numbers.small _)) tt,
+      fits
+          (within-+ (within-+ c.requires.1 (sum-small g.After-wide_sum))
+          (within-* (entry g.Else-m-eq0) (c.requires.0.numbers.small _)))
+          tt,
     )
 
 pub returns : goal.returns

@@ -15,7 +15,7 @@ fewer : (c : Else-m-eq0) → let a = c.args in Wide a.a.now (a.p + 1) a.v.now (a
 fewer c = wide-after c.if-m-eq0.false c.requires.0
 
 pub wide_sum-requires : goal.wide_sum-requires
-wide_sum-requires c =     fewer (goal.at.wide_sum-requires c).Else-m-eq0
+wide_sum-requires c = fewer (goal.at.wide_sum-requires c).Else-m-eq0
 
 -- a term
 abbrev T : Start → ℕ → ℤ
@@ -38,7 +38,8 @@ sum-small c =
 
 pub overflow_add-own : goal.overflow_add-own
 overflow_add-own c =
-    rw (sum_is (goal.at.overflow_add-own c).After-wide_sum, to_z-of_z c.ranges.own) (fits (within-+ c.requires.1 (sum-small (goal.at.overflow_add-own c).After-wide_sum)) tt)
+    let g = goal.at.overflow_add-own c in
+    rw (sum_is g.After-wide_sum, to_z-of_z c.ranges.own) (fits (within-+ c.requires.1 (sum-small g.After-wide_sum)) tt)
 
 -- the first entry, and the sum that it meets
 entry : (c : Else-m-eq0) → Within most_entry (at c.args.a.now c.args.p)
@@ -51,38 +52,42 @@ latest c = to_z-of_z c.ranges.first ∙ c.requires.2 (let h = c.if-m-eq0.false i
 
 pub with_sum-requires : goal.with_sum-requires
 with_sum-requires c =
+    let g = goal.at.with_sum-requires c in
     rw (
-      sum_is (goal.at.with_sum-requires c).After-wide_sum,
+      sum_is g.After-wide_sum,
       to_z-of_z c.ranges.own,
-      latest (goal.at.with_sum-requires c).Else-m-eq0,
-      reads w32 (entry (goal.at.with_sum-requires c).Else-m-eq0) tt,
-      reads w64 (within-+ c.requires.1 (sum-small (goal.at.with_sum-requires c).After-wide_sum)) tt,
+      latest g.Else-m-eq0,
+      reads w32 (entry g.Else-m-eq0) tt,
+      reads w64 (within-+ c.requires.1 (sum-small g.After-wide_sum)) tt,
     ) (
-      fits (entry (goal.at.with_sum-requires c).Else-m-eq0) tt,
-      fits (within-* (entry (goal.at.with_sum-requires c).Else-m-eq0) (c.requires.0.numbers.small _)) tt,
-      fits (within-+ (within-+ c.requires.1 (sum-small (goal.at.with_sum-requires c).After-wide_sum)) (within-* (entry (goal.at.with_sum-requires c).Else-m-eq0) (c.requires.0.numbers.small _))) tt,
+      fits (entry g.Else-m-eq0) tt,
+      fits (within-* (entry g.Else-m-eq0) (c.requires.0.numbers.small _)) tt,
+      fits
+          (within-+ (within-+ c.requires.1 (sum-small g.After-wide_sum))
+          (within-* (entry g.Else-m-eq0) (c.requires.0.numbers.small _)))
+          tt,
     )
 
 pub returns : goal.returns
 returns c =
+    let g = goal.at.returns c in
     back w64 _ c.with_sum.type_inv ∙ c.with_sum.ensures
     ∙ rw (
-      sum_is (goal.at.returns c).After-wide_sum,
+      sum_is g.After-wide_sum,
       to_z-of_z c.ranges.own,
-      latest (goal.at.returns c).Else-m-eq0,
-      reads w32 (entry (goal.at.returns c).Else-m-eq0) tt,
-      reads w64 (within-+ c.requires.1 (sum-small (goal.at.returns c).After-wide_sum)) tt,
+      latest g.Else-m-eq0,
+      reads w32 (entry g.Else-m-eq0) tt,
+      reads w64 (within-+ c.requires.1 (sum-small g.After-wide_sum)) tt,
     )
-    (first-apart (goal.at.returns c).Start ∙ ap (λ (z : ℤ). c.args.own +ℤ z) (sum_head c.args.m (T (goal.at.returns c).Start) c.if-m-eq0.false))
+    (first-apart g.Start ∙ ap (λ (z : ℤ). c.args.own +ℤ z) (sum_head c.args.m (T g.Start) c.if-m-eq0.false))
   where
-    first-apart : ((goal.at.returns c).Start : tie.Start) →
-        (c.args.own +ℤ sum (c.args.m - 1) (λ j. T (goal.at.returns c).Start (suc j))) +ℤ (at c.args.a.now c.args.p *ℤ at c.args.v.now
-        c.args.k)
-        ≡ c.args.own +ℤ (T (goal.at.returns c).Start 0 +ℤ sum (c.args.m - 1) (λ j. T (goal.at.returns c).Start (suc j)))
-    first-apart (goal.at.returns c).Start =
-        let e : c.args.p + 0 ≡ c.args.p = omega arith in
-        let f : c.args.k + 0 ≡ c.args.k = omega arith in
-        rw (e, f) (turned c.args.own _ _)
+    first-apart : (s : Start) →
+        (s.args.own +ℤ sum (s.args.m - 1) (λ j. T s (suc j))) +ℤ (at s.args.a.now s.args.p *ℤ at s.args.v.now s.args.k)
+        ≡ s.args.own +ℤ (T s 0 +ℤ sum (s.args.m - 1) (λ j. T s (suc j)))
+    first-apart s =
+        let e : s.args.p + 0 ≡ s.args.p = omega arith in
+        let f : s.args.k + 0 ≡ s.args.k = omega arith in
+        rw (e, f) (turned s.args.own _ _)
       where
         turned : (o a b : ℤ) → (o +ℤ a) +ℤ b ≡ o +ℤ (b +ℤ a)
         turned o a b = simp lia (omega arith)

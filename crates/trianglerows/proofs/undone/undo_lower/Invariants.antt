@@ -1,8 +1,7 @@
 -- The block is as the turns so far leave it, all of it is in bound, and v has the row's sums with what is recovered.
-use Rattle.std.proofs.Common.{◌≡◌, ◌-◌, ◌≤◌}
+use Rattle.std.proofs.Common.{◌≡◌, ◌≤◌}
 use Rattle.factor.specs.Layouts.{row_of}
 use Rattle.factor.specs.Rounding.{rule_by}
-use Rattle.rules.specs.Numbers.{at}
 use Rattle.trianglerows.specs.TrianglesUndone.{recent_of, Undoing}
 use Rattle.trianglerows.proofs.undone.undo_lower.Given as goal
 
@@ -12,6 +11,3 @@ invariant-loop-j l =
     × Undoing (rule_by l.down l.even) l.col l.fa l.row l.fb l.i l.from l.j l.initial.x l.x l.v
     × (l.p ≡ (row_of l.fb l.j).at)
     × (l.last ≡ recent_of l.v (λ t. t) l.j)
-
-abbrev pub decreases-loop-j : goal.decreases-loop-j
-decreases-loop-j l = l.to - l.j

@@ -11,6 +11,3 @@ invariant-loop-t l =
     × Undoing (rule_by l.down l.even) l.col l.fa l.row l.fb l.i l.from l.t l.initial.x l.x l.v
     × (l.p ≡ l.fb.entries + above l.fb.order (l.fb.order - l.t))
     × (l.last ≡ recent_of l.v (λ u. l.n - suc u) l.t)
-
-abbrev pub decreases-loop-t : goal.decreases-loop-t
-decreases-loop-t l = l.to - l.t
