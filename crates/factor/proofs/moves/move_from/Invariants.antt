@@ -2,7 +2,6 @@
 use Rattle.std.proofs.Common.{◌≡◌, ◌+◌, ◌-◌, ◌*◌, ◌≤◌}
 use Rattle.factor.specs.MovedInPlace.{scattered, to_of, from_of}
 use Rattle.rules.specs.Numbers.{at, count}
-use Rattle.whole.specs.Machine.{back}
 use Rattle.factor.proofs.moves.move_from.Given as goal
 
 abbrev pub invariant-loop-m : goal.invariant-loop-m

@@ -1,5 +1,5 @@
 -- The sum so far is the sum of the first j terms; each term and each sum is small (`sum-small`).
-use Rattle.std.proofs.Common.{arith, w32, w64}
+use Rattle.std.proofs.Common.{arith, w32}
 use Rattle.factor.specs.SumBounds.{sum-small}
 use Rattle.whole.specs.Machine.{fits, reads, within-+, within-*}
 use Rattle.factor.proofs.sums.products_sum.Goals as goal
