@@ -5,6 +5,3 @@ use Rattle.factor.proofs.magnitudes.are_whole.Given as goal
 
 abbrev pub invariant-loop-j : goal.invariant-loop-j
 invariant-loop-j l = (l.j ≤ l.m) × (whole l.a l.p l.m ≡ whole l.a (l.p + l.j) (l.m - l.j))
-
-abbrev pub decreases-loop-j : goal.decreases-loop-j
-decreases-loop-j l = l.m - l.j

@@ -1,5 +1,5 @@
 -- The sum of an element is small (`rest-element-small`), so it and its rounding fit 64 bits.
-use Rattle.std.proofs.Common.{◌≡◌, ◌∙◌, ap, arith, ℤ, w32, w64, to_z, of_z}
+use Rattle.std.proofs.Common.{◌≡◌, ◌∙◌, ap, arith, w32, w64, to_z, of_z}
 use Rattle.factor.specs.Layouts.{row_of}
 use Rattle.joint.specs.Elements.{sign_at, diagonal_of, rest-element-small}
 use Rattle.joint.specs.Sums.{across}

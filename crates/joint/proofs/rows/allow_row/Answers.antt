@@ -9,7 +9,6 @@ use Rattle.factor.specs.declared.Layout.{Layout}
 use Rattle.rules.specs.declared.Rule.{Rule}
 use Rattle.rules.proofs.Laws.Rectangles.{col-of}
 use Rattle.rules.specs.Numbers.{most_allowance, at}
-use Rattle.whole.specs.Diff.{Within}
 use Rattle.whole.specs.Machine.{reads, back}
 use Rattle.joint.proofs.rows.allow_row.Goals as goal
 use Rattle.joint.proofs.rows.allow_row.Goals.{After-allowed_at-z, After-magnitude_sums_at}
