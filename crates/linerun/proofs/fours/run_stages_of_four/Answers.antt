@@ -1,7 +1,6 @@
 -- After t stages the run is that of the stages left (`stage-passes`), and the block is in bound. The run's rule is that of the
 -- first test alone (`by_first`), as halves do not go to the even number.
 use Rattle.std.proofs.Common.{false, ◌≡◌, refl, sym, subst, ℕ, ◌<◌, arith}
-use borrow.Author.Tests.{not-false}
 use Rattle.factor.specs.Rounding.{rule_by, by_tests}
 use Rattle.factor.specs.StageLoops.{stage-passes, stages-done}
 use Rattle.factor.specs.SumBounds.{Bounded}
@@ -56,12 +55,14 @@ run_stage-r-requires c =
 told :
     (c : After-run_stage-r) →
     let s = c.args.sheet.now in
-    Became c.run_stage-r.result (stage_on (is_inverse (G c.before.before.before.before.before.before).task) (G c.before.before.before.before.before.before).rule (count s 0) (at_stage s (count s 0) (T c.before.before))
-    c.loop-t.v)
+    let t = nth_stage c.args.run.task (count s 1) c.loop-t.t in
+    Became c.run_stage-r.result
+    (stage_on (is_inverse c.args.run.task) (rule_by c.is_down-down.result false) (count s 0) (at_stage s (count s 0) t) c.loop-t.v)
 told c =
-    let n = c.args.sheet.now in
-    subst (λ (k : ℕ). Became c.run_stage-r.result (stage_on (is_inverse (G c.before.before.before.before.before.before).task) (G c.before.before.before.before.before.before).rule k
-    (line_stage k (factor_at n k (start n (T c.before.before)))) c.loop-t.v)) (sym c.requires.2)
+    let s = c.args.sheet.now in
+    let t = nth_stage c.args.run.task (count s 1) c.loop-t.t in
+    subst (λ (k : ℕ). Became c.run_stage-r.result (stage_on (is_inverse c.args.run.task) (rule_by c.is_down-down.result false) k
+    (line_stage k (factor_at s k (start s t))) c.loop-t.v)) (sym c.requires.2)
     (rw (c.nth_start-i.ensures, c.is_inverse-back.ensures) at c.run_stage-r.ensures)
 
 pub loop-t-preserved : goal.loop-t-preserved
@@ -71,7 +72,7 @@ loop-t-preserved c =
       c.loop-t.invariant.1,
       stage-passes (line-listed n (G (goal.at.loop-t-preserved c).After-is_down-down).task) c.loop-t.t (in-turn (goal.at.loop-t-preserved c).In-loop-t) c.loop-t.invariant.2
           (stage-steps (G (goal.at.loop-t-preserved c).After-is_down-down).task (G (goal.at.loop-t-preserved c).After-is_down-down).rule (count n 0) (at_stage n (count n 0) (T (goal.at.loop-t-preserved c).In-loop-t)) c.loop-t.v c.requires.3 (told (goal.at.loop-t-preserved c).After-run_stage-r)
-          (not-false _ c.if-not-r.false))
+          c.if-not-r.false)
           refl,
     )
 
