@@ -1,6 +1,7 @@
 -- After t stages the run is that of the stages left (`stage-passes`), and the block is in bound. The run's rule is that of the
 -- first test alone (`by_first`), as halves do not go to the even number.
 use Rattle.std.proofs.Common.{false, ◌≡◌, refl, sym, subst, ℕ, ◌<◌, arith}
+use borrow.Author.Tests.{not-false}
 use Rattle.factor.specs.Rounding.{rule_by, by_tests}
 use Rattle.factor.specs.StageLoops.{stage-passes, stages-done}
 use Rattle.factor.specs.SumBounds.{Bounded}
@@ -72,7 +73,7 @@ loop-t-preserved c =
       c.loop-t.invariant.1,
       stage-passes (line-listed n (G (goal.at.loop-t-preserved c).After-is_down-down).task) c.loop-t.t (in-turn (goal.at.loop-t-preserved c).In-loop-t) c.loop-t.invariant.2
           (stage-steps (G (goal.at.loop-t-preserved c).After-is_down-down).task (G (goal.at.loop-t-preserved c).After-is_down-down).rule (count n 0) (at_stage n (count n 0) (T (goal.at.loop-t-preserved c).In-loop-t)) c.loop-t.v c.requires.3 (told (goal.at.loop-t-preserved c).After-run_stage-r)
-          c.if-not-r.false)
+          (not-false _ c.if-not-r.false))
           refl,
     )
 

@@ -1,5 +1,6 @@
 -- After t stages the run is that of the stages left (`stage-passes`), and the block is in bound.
 use Rattle.std.proofs.Common.{◌≡◌, ℕ, ◌≤◌, ◌<◌, arith}
+use borrow.Author.Tests.{not-true, not-false}
 use Rattle.factor.specs.StageLoops.{stage-passes, stage-stops, stages-done}
 use Rattle.factor.specs.Steps.{Step}
 use Rattle.factor.specs.Tasks.{limit_of, nth_stage, taken_by, stage-below}
@@ -61,7 +62,7 @@ pub returns-then-not-s : goal.returns-then-not-s
 returns-then-not-s c =
     run-ends-stopped c.args.run c.args.sheet.now c.loop-t.t (in-turn (goal.at.returns-then-not-s c).In-loop-t) c.loop-t.invariant.3
     (stage-stops (line-listed c.args.sheet.now c.args.run.task) c.loop-t.t (in-turn (goal.at.returns-then-not-s c).In-loop-t) c.loop-t.invariant.3 (told (goal.at.returns-then-not-s c).After-run_stage-s)
-    c.if-not-s.true)
+    (not-true _ c.if-not-s.true))
 
 pub loop-t-preserved : goal.loop-t-preserved
 loop-t-preserved c =
@@ -71,7 +72,7 @@ loop-t-preserved c =
       c.loop-t.invariant.2,
       stage-passes (line-listed c.args.sheet.now c.args.run.task) c.loop-t.t (in-turn (goal.at.loop-t-preserved c).In-loop-t) c.loop-t.invariant.3
           (told (goal.at.loop-t-preserved c).After-run_stage-s)
-          c.if-not-s.false,
+          (not-false _ c.if-not-s.false),
     )
 
 pub returns : goal.returns
