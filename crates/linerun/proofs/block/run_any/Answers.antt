@@ -1,6 +1,5 @@
 -- Stage 0 (`run_out`), then the run of the block in its room (`run_ends`), refused or done.
 use Rattle.std.proofs.Common.{rules, ◌≡◌, refl, sym, ◌∙◌, ◌≤◌, arith, length}
-use borrow.Author.Tests.{not-true, not-false}
 use Rattle.factor.specs.RunReplies.{given-all, noted, ended-noted, ended-done, run_ends, run_out, start-bounded}
 use Rattle.factor.specs.Tasks.{number_of, end_answer, inputs-most}
 use Rattle.laws.specs.Accepted.{accepted-order}
@@ -37,7 +36,7 @@ pub returns-then-not-r : goal.returns-then-not-r
 returns-then-not-r c =
     let x = c.args.x.now in
     let y = c.args.y.now in
-    let q = ((rw c.load.ensures at c.run_stages-r.ensures).stops (not-true _ c.if-not-r.true)).0 in
+    let q = ((rw c.load.ensures at c.run_stages-r.ensures).stops c.if-not-r.true).0 in
     rw (← (run_ends 16 (stages-good c.requires.0) x y c.requires.3 c.args.run c.requires.2 (accepted-order c.requires.0).most))
     (ended-noted (number_of c.args.run.task) y q c.note-then-not-r.ensures (λ z. rw (c.element.ensures z) q))
 
@@ -53,5 +52,5 @@ returns c =
     let x = c.args.x.now in
     let y = c.args.y.now in
     rw (← (run_ends 16 (stages-good c.requires.0) x y c.requires.3 c.args.run c.requires.2 (accepted-order c.requires.0).most))
-    (ended-done (number_of c.args.run.task) y ((rw c.load.ensures at c.run_stages-r.ensures).takes (not-false _ c.if-not-r.false)) refl
+    (ended-done (number_of c.args.run.task) y ((rw c.load.ensures at c.run_stages-r.ensures).takes c.if-not-r.false) refl
     c.copy_front.ensures)

@@ -81,4 +81,4 @@ pub returns : goal.returns
 returns c =
     let l = c.loop-t in
     let e : l.t ≡ count c.args.sheet.now 1 = omega (arith, l.invariant.1) in
-    rw (by_first (goal.at.returns c).After-is_down-down) at (stages-done (line-listed c.args.sheet.now (G (goal.at.returns c).After-is_down-down).task) (rw e at l.invariant.2))
+    λ z. rw (by_first (goal.at.returns c).After-is_down-down) at (stages-done (line-listed c.args.sheet.now (G (goal.at.returns c).After-is_down-down).task) (rw e at l.invariant.2))
