@@ -1,6 +1,5 @@
 -- Stage 0 (`run_out`), then the run of the block in its room (`run_ends`), refused or done.
 use Rattle.std.proofs.Common.{rules, ◌≡◌, refl, sym, ◌∙◌, ◌≤◌, arith, length}
-use borrow.Author.Tests.{not-false}
 use Rattle.factor.specs.RunReplies.{given-all, noted, ended-noted, ended-done, run_ends, run_out, start-bounded}
 use Rattle.factor.specs.Tasks.{number_of, end_answer, inputs-most}
 use Rattle.laws.specs.Accepted.{accepted-order}
@@ -37,24 +36,21 @@ pub returns-then-not-r : goal.returns-then-not-r
 returns-then-not-r c =
     let x = c.args.x.now in
     let y = c.args.y.now in
-    let q = ((rw c.load.ensures at c.run_stages-r.ensures).stops (c.if-not-r.true)).0 in
+    let q = ((rw c.load.ensures at c.run_stages-r.ensures).stops c.if-not-r.true).0 in
     rw (← (run_ends 16 (stages-good c.requires.0) x y c.requires.3 c.args.run c.requires.2 (accepted-order c.requires.0).most))
     (ended-noted (number_of c.args.run.task) y q c.note-then-not-r.ensures (λ z. rw (c.element.ensures z) q))
 
 pub copy_front-requires : goal.copy_front-requires
 copy_front-requires c =
-    let s = c.before in
-    let m = (accepted-order s.requires.0).most in
-    let l : length c.run-stages.result.block ≡ 16 = search rules in
-    (omega (arith, s.requires.3), omega (arith, s.requires.3))
+    let m = (accepted-order c.requires.0).most in
+    let l : length c.run_stages-r.result.block ≡ 16 = search rules in
+    (omega (arith, c.requires.3), omega (arith, c.requires.3))
 
 pub returns : goal.returns
 unfolding end_answer
 returns c =
-    let s = c.before in
-    let x = s.args.x.now in
-    let y = s.args.y.now in
-    rw (← (run_ends 16 (stages-good s.requires.0) x y s.requires.3 s.args.run s.requires.2 (accepted-order s.requires.0).most))
-    (ended-done (number_of s.args.run.task) y
-    ((rw c.load.ensures at c.run-stages.ensures).takes (not-false _ c.if2.false)) refl
+    let x = c.args.x.now in
+    let y = c.args.y.now in
+    rw (← (run_ends 16 (stages-good c.requires.0) x y c.requires.3 c.args.run c.requires.2 (accepted-order c.requires.0).most))
+    (ended-done (number_of c.args.run.task) y ((rw c.load.ensures at c.run_stages-r.ensures).takes c.if-not-r.false) refl
     c.copy_front.ensures)

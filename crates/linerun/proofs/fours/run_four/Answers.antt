@@ -35,7 +35,7 @@ run_stages_of_four-requires c =
 pub returns : goal.returns
 returns c =
     let f = four (goal.at.returns c).Else-not-is_four in
-    let a = c.args in (
+    let a = c.args in λ t. (
       f.0,
       ran-is a.run.task a.run.rule _ _ a.x.now f.1 ∙
           (rw c.load_four-v.ensures at (c.run_stages_of_four.ensures t)),

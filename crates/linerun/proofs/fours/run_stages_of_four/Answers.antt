@@ -56,12 +56,14 @@ run_stage-r-requires c =
 told :
     (c : After-run_stage-r) →
     let s = c.args.sheet.now in
-    Became c.run_stage-r.result (stage_on (is_inverse (G c.before.before.before.before.before.before).task) (G c.before.before.before.before.before.before).rule (count s 0) (at_stage s (count s 0) (T c.before.before))
-    c.loop-t.v)
+    let t = nth_stage c.args.run.task (count s 1) c.loop-t.t in
+    Became c.run_stage-r.result
+    (stage_on (is_inverse c.args.run.task) (rule_by c.is_down-down.result false) (count s 0) (at_stage s (count s 0) t) c.loop-t.v)
 told c =
-    let n = c.args.sheet.now in
-    subst (λ (k : ℕ). Became c.run_stage-r.result (stage_on (is_inverse (G c.before.before.before.before.before.before).task) (G c.before.before.before.before.before.before).rule k
-    (line_stage k (factor_at n k (start n (T c.before.before)))) c.loop-t.v)) (sym c.requires.2)
+    let s = c.args.sheet.now in
+    let t = nth_stage c.args.run.task (count s 1) c.loop-t.t in
+    subst (λ (k : ℕ). Became c.run_stage-r.result (stage_on (is_inverse c.args.run.task) (rule_by c.is_down-down.result false) k
+    (line_stage k (factor_at s k (start s t))) c.loop-t.v)) (sym c.requires.2)
     (rw (c.nth_start-i.ensures, c.is_inverse-back.ensures) at c.run_stage-r.ensures)
 
 pub loop-t-preserved : goal.loop-t-preserved
@@ -79,4 +81,4 @@ pub returns : goal.returns
 returns c =
     let l = c.loop-t in
     let e : l.t ≡ count c.args.sheet.now 1 = omega (arith, l.invariant.1) in
-    rw (by_first (goal.at.returns c).After-is_down-down) at (stages-done (line-listed c.args.sheet.now (G (goal.at.returns c).After-is_down-down).task) (rw e at l.invariant.2))
+    λ z. rw (by_first (goal.at.returns c).After-is_down-down) at (stages-done (line-listed c.args.sheet.now (G (goal.at.returns c).After-is_down-down).task) (rw e at l.invariant.2))

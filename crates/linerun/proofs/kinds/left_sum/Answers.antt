@@ -1,5 +1,5 @@
 -- The entries stand on one side of the diagonal (`left_along`), and their sum is small.
-use Rattle.std.proofs.Common.{◌≡◌, sym, ◌∙◌, arith, w64, to_z, of_z}
+use Rattle.std.proofs.Common.{◌≡◌, sym, ◌∙◌, arith, rules, length, w64, to_z, of_z}
 use Rattle.factor.specs.Layouts.{row_of, along}
 use Rattle.factor.specs.SumBounds.{Bounded, bounded-le, left-terms, part-is}
 use Rattle.linerun.specs.LineBounds.{most_sum, row-of-16, row_small}
@@ -17,8 +17,9 @@ bounded s = bounded-le (omega arith) s.requires.0.2
 pub products_sum-requires : goal.products_sum-requires
 products_sum-requires c =
     let e = lower-left c.args.f c.args.m c.requires.1 in
+    let w : length c.args.x.now ≡ 16 = search rules in
     rw (part-is c.args.p c.args.sheet.now, c.requires.2)
-    (rw e at (left-terms (row-of-16 c.requires.0.0 c.args.m c.requires.0.1) (bounded (goal.at.products_sum-requires c).Start) c.products_sum-arg-2-1.given.0))
+    (rw e at (left-terms (row-of-16 c.requires.0.0 c.args.m c.requires.0.1) (bounded (goal.at.products_sum-requires c).Start) w))
 
 value :
     (c : After-products_sum) →
@@ -26,10 +27,11 @@ value :
     to_z w64 (of_z w64 c.products_sum.result) ≡ along (at a.sheet.now) (row_of a.f a.m) a.m a.x.now
 value c =
     let h = row-of-16 c.requires.0.0 c.args.m c.requires.0.1 in
+    let w : length c.args.x.now ≡ 16 = search rules in
     back w64 _ c.products_sum.type_inv
     ∙ c.products_sum.ensures
     ∙ rw (part-is c.args.p c.args.sheet.now, c.requires.2)
-    (left_along h (bounded c.before) c.products_sum-arg-2-1.given.0 (sym (lower-left c.args.f c.args.m c.requires.1))
+    (left_along h (bounded-le (omega arith) c.requires.0.2) w (sym (lower-left c.args.f c.args.m c.requires.1))
     (lower-right c.args.f c.args.m c.requires.1))
 
 small :

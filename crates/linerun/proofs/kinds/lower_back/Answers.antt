@@ -50,8 +50,8 @@ left_sum-q-requires c =
 -- the rounded sum, as it was read
 sum :
     (c : After-left_sum-q) →
-    to_z w64 (of_z w64 c.left_sum-q.result) ≡ rounded_sum (K c.before.before.before) c.args.sheet.now c.args.f c.loop-t.x
-    c.loop-t.t
+    to_z w64 (of_z w64 c.left_sum-q.result)
+    ≡ rounded_sum (rule_by c.args.down c.args.even) c.args.sheet.now c.args.f c.loop-t.x c.loop-t.t
 sum c = back w64 _ c.left_sum-q.type_inv ∙ c.left_sum-q.ensures
 
 pub undo_at-requires : goal.undo_at-requires
@@ -66,9 +66,11 @@ value :
     (c : After-undo_at) →
     let m = c.loop-t.t in
     let q = c.left_sum-q.result in
-    at c.args.sheet.now (c.args.f.signs + m) *ℤ (at c.loop-t.x m -ℤ to_z w64 (of_z w64 q)) ≡ F c.before.before.before.before c.loop-t.t
+    let k = rule_by c.args.down c.args.even in
+    at c.args.sheet.now (c.args.f.signs + m) *ℤ (at c.loop-t.x m -ℤ to_z w64 (of_z w64 q))
+    ≡ undone_at k c.args.sheet.now c.args.f (undone_in_place k c.args.sheet.now c.args.f c.loop-t.t c.args.y) c.loop-t.t
 unfolding undone_at
-value c = rw (sum c.before, c.loop-t.invariant.3.is)
+value c = rw (back w64 _ c.left_sum-q.type_inv ∙ c.left_sum-q.ensures, c.loop-t.invariant.3.is)
 
 pub returns-then-not-undo_at : goal.returns-then-not-undo_at
 returns-then-not-undo_at c =

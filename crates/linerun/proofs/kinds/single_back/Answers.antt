@@ -10,7 +10,7 @@ use Rattle.rules.specs.Numbers.{at}
 use Rattle.rules.specs.declared.Rule.{Rule}
 use Rattle.whole.specs.Machine.{back}
 use Rattle.linerun.proofs.kinds.single_back.Goals as goal
-use Rattle.linerun.proofs.kinds.single_back.Goals.{After-nth_undone-m, After-single_sum-q, After-undo_at, In-loop-t, Start}
+use Rattle.linerun.proofs.kinds.single_back.Goals.{After-single_sum-q, After-undo_at, In-loop-t, Start}
 
 -- the rule of the two tests
 abbrev K : Start → Rule
@@ -37,34 +37,37 @@ fills s = undone-fills (K s) s.requires.0 s.args.y (len s) s.requires.2 (P s) (�
 turn : (c : In-loop-t) → c.loop-t.t < c.args.f.order
 turn c = let l = c.loop-t-test.true in omega (arith, c.loop-t.invariant.1)
 
-small-place : (c : After-nth_undone-m) → c.nth_undone-m.result < c.args.f.order
-small-place c =
-    rw c.nth_undone-m.ensures ((fills c.before.before.before).below c.loop-t.t (turn c.before))
+-- the place of this turn
+small-place : (s : Start) (t m : ℕ) → t < s.args.f.order → m ≡ P s t → m < s.args.f.order
+small-place s t m l e = rw e ((fills s).below t l)
 
 -- the rounded sum, as it was read
 sum :
     (c : After-single_sum-q) →
-    to_z w64 (of_z w64 c.single_sum-q.result) ≡ rounded_sum (K c.before.before.before.before) c.args.sheet.now c.args.f c.loop-t.x
-    c.nth_undone-m.result
+    to_z w64 (of_z w64 c.single_sum-q.result)
+    ≡ rounded_sum (rule_by c.args.down c.args.even) c.args.sheet.now c.args.f c.loop-t.x c.nth_undone-m.result
 sum c = back w64 _ c.single_sum-q.type_inv ∙ c.single_sum-q.ensures
 
 pub undo_at-requires : goal.undo_at-requires
 undo_at-requires c =
-    (
-      (c.requires.0, (small-place (goal.at.undo_at-requires c).After-nth_undone-m), c.loop-t.invariant.2.small),
-      rw (sum (goal.at.undo_at-requires c).After-single_sum-q) (rounded-sum-small c.requires.0 c.nth_undone-m.result (small-place (goal.at.undo_at-requires c).After-nth_undone-m) (K (goal.at.undo_at-requires c).Start)
-          c.loop-t.invariant.2.small),
+    let s = (goal.at.undo_at-requires c).Start in
+    let l = small-place s c.loop-t.t c.nth_undone-m.result (turn (goal.at.undo_at-requires c).In-loop-t) c.nth_undone-m.ensures in (
+      (c.requires.0, l, c.loop-t.invariant.2.small),
+      rw (sum (goal.at.undo_at-requires c).After-single_sum-q)
+      (rounded-sum-small c.requires.0 c.nth_undone-m.result l (K s) c.loop-t.invariant.2.small),
     )
 
 -- what the element was
 value :
     (c : After-undo_at) →
-    let m = P c.before.before.before.before.before c.loop-t.t in
+    let m = nth_undone c.args.f.kind c.args.f.order c.args.f.row c.loop-t.t in
     let q = c.single_sum-q.result in
-    at c.args.sheet.now (c.args.f.signs + m) *ℤ (at c.loop-t.x m -ℤ to_z w64 (of_z w64 q)) ≡ F c.before.before.before.before.before c.loop-t.t
+    let k = rule_by c.args.down c.args.even in
+    at c.args.sheet.now (c.args.f.signs + m) *ℤ (at c.loop-t.x m -ℤ to_z w64 (of_z w64 q))
+    ≡ undone_at k c.args.sheet.now c.args.f (undone_in_place k c.args.sheet.now c.args.f c.loop-t.t c.args.y) m
 unfolding undone_at
 value c = rw (
-  sum c.before,
+  back w64 _ c.single_sum-q.type_inv ∙ c.single_sum-q.ensures,
   c.nth_undone-m.ensures,
   c.loop-t.invariant.2.is,
 )

@@ -38,8 +38,8 @@ right_sum-q-requires c =
 -- the rounded sum, as it was read
 sum :
     (c : After-right_sum-q) →
-    to_z w64 (of_z w64 c.right_sum-q.result) ≡ rounded_sum (K c.before.before.before) c.args.sheet.now c.args.f c.args.x
-    c.loop-m.m
+    to_z w64 (of_z w64 c.right_sum-q.result)
+    ≡ rounded_sum (rule_by c.args.down c.args.even) c.args.sheet.now c.args.f c.args.x c.loop-m.m
 sum c = back w64 _ c.right_sum-q.type_inv ∙ c.right_sum-q.ensures
 
 pub apply_at-requires : goal.apply_at-requires
@@ -54,9 +54,9 @@ value :
     (c : After-apply_at) →
     let q = c.right_sum-q.result in
     (at c.args.sheet.now (c.args.f.signs + c.loop-m.m) *ℤ at c.args.x c.loop-m.m) +ℤ to_z w64 (of_z w64 q)
-    ≡ F c.before.before.before.before c.loop-m.m
+    ≡ applied_at (rule_by c.args.down c.args.even) c.args.sheet.now c.args.f c.args.x c.loop-m.m
 unfolding applied_at
-value c = rw (sum c.before)
+value c = rw (back w64 _ c.right_sum-q.type_inv ∙ c.right_sum-q.ensures)
 
 pub returns-then-not-apply_at : goal.returns-then-not-apply_at
 returns-then-not-apply_at c =

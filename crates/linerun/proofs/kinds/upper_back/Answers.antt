@@ -79,7 +79,7 @@ place c =
 pub right_sum-q-requires : goal.right_sum-q-requires
 right_sum-q-requires c =
     (
-      (c.requires.0, (let (goal.at.right_sum-q-requires c).At-loop-t = turn (goal.at.right_sum-q-requires c).In-loop-t in omega arith), c.loop-t.inv.3.small),
+      (c.requires.0, (let l = turn (goal.at.right_sum-q-requires c).In-loop-t in omega arith), c.loop-t.invariant.3.small),
       c.requires.1,
       (let e = place (goal.at.right_sum-q-requires c).In-loop-t in omega (
         arith,
@@ -91,8 +91,8 @@ right_sum-q-requires c =
 -- the rounded sum, as it was read
 sum :
     (c : After-right_sum-q) →
-    to_z w64 (of_z w64 c.right_sum-q.result) ≡ rounded_sum (K c.before.before.before.before) c.args.sheet.now c.args.f c.loop-t.x
-    (c.args.f.order - 1 - c.loop-t.t)
+    to_z w64 (of_z w64 c.right_sum-q.result)
+    ≡ rounded_sum (rule_by c.args.down c.args.even) c.args.sheet.now c.args.f c.loop-t.x (c.args.f.order - 1 - c.loop-t.t)
 sum c = back w64 _ c.right_sum-q.type_inv ∙ c.right_sum-q.ensures
 
 pub undo_at-requires : goal.undo_at-requires
@@ -108,9 +108,11 @@ value :
     (c : After-undo_at) →
     let m = c.args.f.order - 1 - c.loop-t.t in
     let q = c.right_sum-q.result in
-    at c.args.sheet.now (c.args.f.signs + m) *ℤ (at c.loop-t.x m -ℤ to_z w64 (of_z w64 q)) ≡ F c.before.before.before.before.before c.loop-t.t
+    let k = rule_by c.args.down c.args.even in
+    at c.args.sheet.now (c.args.f.signs + m) *ℤ (at c.loop-t.x m -ℤ to_z w64 (of_z w64 q))
+    ≡ undone_at k c.args.sheet.now c.args.f (undone_in_place k c.args.sheet.now c.args.f c.loop-t.t c.args.y) m
 unfolding undone_at
-value c = rw (sum c.before, c.loop-t.invariant.3.is)
+value c = rw (back w64 _ c.right_sum-q.type_inv ∙ c.right_sum-q.ensures, c.loop-t.invariant.3.is)
 
 pub returns-then-not-undo_at : goal.returns-then-not-undo_at
 returns-then-not-undo_at c =

@@ -53,7 +53,8 @@ told :
     (c : After-run_stage-s) →
     let a = c.args in
     let s = a.sheet.now in
-    Step (limit_of a.run.task) (count s 0) (taken_by a.run (count s 0) (at_stage s (count s 0) (T c.before.before)) c.loop-t.v)
+    let t = nth_stage a.run.task (count s 1) c.loop-t.t in
+    Step (limit_of a.run.task) (count s 0) (taken_by a.run (count s 0) (at_stage s (count s 0) t) c.loop-t.v)
     c.run_stage-s.result.outcome.ok c.run_stage-s.result.block
 told c = rw (c.nth_start-i.ensures, c.loop-t.invariant.1) at c.run_stage-s.ensures
 

@@ -19,7 +19,7 @@ len s = search rules
 
 value :
     (c : After-allowed_at-z) →
-    to_z w64 (of_z w64 c.allowed_at-z.result) ≡ F c.before.before.before c.loop-m.m
+    to_z w64 (of_z w64 c.allowed_at-z.result) ≡ allowed_at c.args.rule c.args.sheet.now c.args.f c.args.b c.loop-m.m
 value c = back w64 _ c.allowed_at-z.type_inv ∙ c.allowed_at-z.ensures
 
 pub returns-then-not-is_within : goal.returns-then-not-is_within

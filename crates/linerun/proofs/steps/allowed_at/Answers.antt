@@ -28,7 +28,8 @@ abbrev H : Start → ℤ
 H s = cond (W s) (pos 0) (pos (share s.args.rule))
 
 magnitudes : (c : After-magnitude_sum_at) →
-    to_z w64 (of_z w64 c.magnitude_sum_at.result) ≡ A c.before.before
+    to_z w64 (of_z w64 c.magnitude_sum_at.result)
+    ≡ along (magnitude_at c.args.sheet.now) (row_of c.args.f c.args.m) c.args.m c.args.b.now
 magnitudes c =
     back w64 _ c.magnitude_sum_at.type_inv ∙ c.magnitude_sum_at.ensures ∙ rw c.row_of-r.ensures
 
@@ -43,11 +44,15 @@ share-small : (rule : Rule) (b : Bool) → Within 4096 (cond b (pos 0) (pos (sha
 share-small rule true = within-le (omega arith) (within-pos 0)
 share-small rule false = within-le (share-most rule) (within-pos (share rule))
 
-quotient : (c : After-raise_line) → to_z w64 (of_z w64 c.raise_line.result) ≡ Q c.before.before.before
-quotient c = back w64 _ c.raise_line.type_inv ∙ c.raise_line.ensures ∙ rw (magnitudes c.before)
+quotient : (c : After-raise_line) →
+    let a = along (magnitude_at c.args.sheet.now) (row_of c.args.f c.args.m) c.args.m c.args.b.now in
+    to_z w64 (of_z w64 c.magnitude_sum_at.result) ≡ a → to_z w64 (of_z w64 c.raise_line.result) ≡ ceiling unit a
+quotient c e = back w64 _ c.raise_line.type_inv ∙ c.raise_line.ensures ∙ rw e
 
 added : (c : After-row_share) →
-    to_z w64 (of_z w64 c.row_share.result) ≡ H c.before.before.before.before
+    let r = row_of c.args.f c.args.m in
+    to_z w64 (of_z w64 c.row_share.result)
+    ≡ cond (whole c.args.sheet.now r.at (r.left + r.right)) (pos 0) (pos (share c.args.rule))
 added c = back w64 _ c.row_share.type_inv ∙ c.row_share.ensures ∙ rw c.row_of-r.ensures
 
 pub raise_line-requires : goal.raise_line-requires
@@ -58,5 +63,6 @@ pub raised-requires : goal.raised-requires
 raised-requires c =
     let b = c.requires.2.small c.args.m in
     let h : Within 4096 (H (goal.at.raised-requires c).Start) = share-small c.args.rule (W (goal.at.raised-requires c).Start) in
-    rw (quotient (goal.at.raised-requires c).After-raise_line, added (goal.at.raised-requires c).After-row_share, reads w32 b tt)
+    let m = magnitudes (goal.at.raised-requires c).After-magnitude_sum_at in
+    rw (quotient (goal.at.raised-requires c).After-raise_line m, added (goal.at.raised-requires c).After-row_share, reads w32 b tt)
     (fits b tt, fits (within-+ b (quotient-small (goal.at.raised-requires c).Start)) tt, fits (within-+ (within-+ b (quotient-small (goal.at.raised-requires c).Start)) h) tt)
