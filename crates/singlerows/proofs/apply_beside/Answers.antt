@@ -21,10 +21,10 @@ sign c = back w32 _ c.sign_at-d.type_inv ∙ c.sign_at-d.ensures
 
 pub applied_beside-z-requires : goal.applied_beside-z-requires
 applied_beside-z-requires c =
-    let s = c.before in
-    let a = s.requires.0 in
-    let l = s.requires.3 in
-    rw (sign (goal.at.applied_beside-z-requires c).Start) (laid-given a l a.small, laid-narrow a l s.requires.1 a.small, laid-column a l)
+    let a = c.requires.0 in
+    let l = c.requires.3 in
+    rw (sign (goal.at.applied_beside-z-requires c).After-sign_at-d)
+    (laid-given a l a.small, laid-narrow a l c.requires.1 a.small, laid-column a l)
 
 -- what its element in column q becomes
 abbrev Z : Start → ℤ
@@ -33,45 +33,44 @@ Z s =
     s.args.x.now
     (s.args.i * s.args.fb.order + s.args.fb.row)
 
-value : (c : After-applied_beside-z) → to_z w64 (of_z w64 c.applied_beside-z.result) ≡ Z c.before
+value : (c : After-applied_beside-z) → to_z w64 (of_z w64 c.applied_beside-z.result) ≡ Z c.before.before
 value c =
-    let s = c.before in
     back w64 _ c.applied_beside-z.type_inv ∙ c.applied_beside-z.ensures
-    ∙ rw (sign c.before.before) (applied-laid s.requires.0 s.requires.3 (rule_by s.args.down s.args.even) s.requires.1
-    s.requires.2)
+    ∙ rw (sign c.before) (applied-laid c.requires.0 c.requires.3 (rule_by c.args.down c.args.even) c.requires.1
+    c.requires.2)
 
 pub returns-then-not-is_within : goal.returns-then-not-is_within
 returns-then-not-is_within c =
-    let s = c.before in
+    let z = (goal.at.returns-then-not-is_within c).After-applied_beside-z in
     row-beyond refl (record {
-      turn = s.args.fb.row;
-      before = s.requires.0.low;
-      far = test-no bound (value (goal.at.returns-then-not-is_within c).After-applied_beside-z) c.is_within.ensures (c.if-not-is_within.true);
+      turn = c.args.fb.row;
+      before = c.requires.0.low;
+      far = test-no bound (value z) c.is_within.ensures (c.if-not-is_within.true);
     })
 
-held : (c : Else-not-is_within) → Within bound (Z c.before)
+held : (c : Else-not-is_within) → Within bound (Z c.before.before.before.before)
 held c = test-yes bound (value c.before.before) c.is_within.ensures (c.if-not-is_within.false)
 
 pub turn_row-requires : goal.turn_row-requires
 turn_row-requires c =
-    let a = c.before.requires.0 in
-    rw (sign (goal.at.turn_row-requires c).Start) (laid-given a c.before.requires.3 a.small, a.long)
+    let a = c.requires.0 in
+    rw (sign (goal.at.turn_row-requires c).After-sign_at-d) (laid-given a c.requires.3 a.small, a.long)
 
-turned : (c : After-turn_row) → let s = c.before in
-    Turned (sign_at s.args.row.now s.args.fb) (D s) (s.args.i * s.args.fb.order) s.args.fb.order
-    s.args.x.now c.turn_row.new.1.1.1.1.0
+turned : (c : After-turn_row) →
+    Turned (sign_at c.args.row.now c.args.fb) (sign_at c.args.col.now c.args.fa c.args.i)
+    (c.args.i * c.args.fb.order) c.args.fb.order c.args.x.now c.turn_row.new.x
 turned c =
-    laid-turned c.before.requires.0 c.before.requires.3 (rw (sign c.before.before.before.before.before) at c.turn_row.ensures)
+    laid-turned c.requires.0 c.requires.3 (rw (sign c.before.before.before.before.before) at c.turn_row.ensures)
 
 pub returns : goal.returns
 returns c =
-    let s = c.before in
-    let a = s.requires.0 in
-    let l = s.requires.3 in
+    let a = c.requires.0 in
+    let l = c.requires.3 in
     let t = turned (goal.at.returns c).After-turn_row in
-    rw (value (goal.at.returns c).After-applied_beside-z, reads w32 (held (goal.at.returns c).Else-not-is_within) tt, l.order)
+    let h = held (goal.at.returns c).Else-not-is_within in
+    rw (value (goal.at.returns c).After-applied_beside-z, reads w32 h tt, l.order)
     (row-through
-    (applied-row (rule_by s.args.down s.args.even) s.args.col.now s.args.fa s.args.i (a.alike ∙ s.requires.1)
-    s.requires.2 s.requires.1
-    a.row a.low s.args.x.now (let h = rw l.order at (laid-room a l) in omega (arith, a.long)) t refl)
-    (bounded-set _ _ (turned-small t (a.column.sign s.args.i a.below) a.row.sign a.small) (held (goal.at.returns c).Else-not-is_within)))
+    (applied-row (rule_by c.args.down c.args.even) c.args.col.now c.args.fa c.args.i (a.alike ∙ c.requires.1)
+    c.requires.2 c.requires.1
+    a.row a.low c.args.x.now (let r = rw l.order at (laid-room a l) in omega (arith, a.long)) t refl)
+    (bounded-set _ _ (turned-small t (a.column.sign c.args.i a.below) a.row.sign a.small) h))

@@ -16,29 +16,27 @@ room s =
     omega arith
 
 sign : (c : After-sign_at) →
-    let s = c.before in
-    to_z w32 (of_z w32 c.sign_at.result) ≡ sign_at s.args.col.now s.args.fa s.args.i
+    to_z w32 (of_z w32 c.sign_at.result) ≡ sign_at c.args.col.now c.args.fa c.args.i
 sign c = back w32 _ c.sign_at.type_inv ∙ c.sign_at.ensures
 
 pub apply_elements-requires : goal.apply_elements-requires
 apply_elements-requires c =
-    let s = c.before in
-    rw (sign (goal.at.apply_elements-requires c).After-sign_at, c.sums_at.ensures) (
+    let g = goal.at.apply_elements-requires c in
+    rw (sign g.After-sign_at, c.sums_at.ensures) (
       (
-        s.requires.1,
-        s.requires.0.sign s.args.i s.requires.2,
-        sums-small s.requires.0 s.args.i s.requires.2 s.args.fb.order s.requires.3,
-        room s,
-        s.requires.3,
-        (let l = s.requires.4 in omega arith),
+        c.requires.1,
+        c.requires.0.sign c.args.i c.requires.2,
+        sums-small c.requires.0 c.args.i c.requires.2 c.args.fb.order c.requires.3,
+        room g.Start,
+        c.requires.3,
+        (let l = c.requires.4 in omega arith),
       ),
-      s.requires.4,
-      s.requires.5,
+      c.requires.4,
+      c.requires.5,
     )
 
 pub returns : goal.returns
 returns c =
-    let s = c.before in
-    applied-row (rule_by s.args.down s.args.even) s.args.col.now s.args.fa s.args.row.now s.args.fb
-    s.args.i s.args.x.now
+    applied-row (rule_by c.args.down c.args.even) c.args.col.now c.args.fa c.args.row.now c.args.fb
+    c.args.i c.args.x.now
     (rw (sign (goal.at.returns c).After-sign_at, c.sums_at.ensures) at c.apply_elements.ensures)

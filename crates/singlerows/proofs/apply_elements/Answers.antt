@@ -10,56 +10,49 @@ use Rattle.singlerows.specs.SingleRowsInPlace.{row-through, row-beyond, turn-bey
 use Rattle.whole.specs.Diff.{Within}
 use Rattle.whole.specs.Machine.{fits, reads, back}
 use Rattle.singlerows.proofs.apply_elements.Goals as goal
-use Rattle.singlerows.proofs.apply_elements.Goals.{After-applied_whole-z, After-crossing_total-s, After-sign_at, Else-not-is_within, In-loop-j, Start}
-
--- what was lent
-abbrev S : In-loop-j → Start
-S c = c.before.before.before
+use Rattle.singlerows.proofs.apply_elements.Goals.{After-applied_whole-z, After-crossing_total-s, After-sign_at, Else-not-is_within, In-loop-j}
 
 -- the element in turn is one of the row
-inside : (c : In-loop-j) → c.loop-j.j < (S c).args.f.order
+inside : (c : In-loop-j) → c.loop-j.j < c.args.f.order
 inside c = c.loop-j-test.true
 
 -- its sum, its sign and its number
 total : (c : After-crossing_total-s) →
-    to_z w64 (of_z w64 c.crossing_total-s.result)
-    ≡ total_of (S c.before).args.row.now (S c.before).args.f c.loop-j.j (S c.before).args.v.now
+    to_z w64 (of_z w64 c.crossing_total-s.result) ≡ total_of c.args.row.now c.args.f c.loop-j.j c.args.v.now
 total c = back w64 _ c.crossing_total-s.type_inv ∙ c.crossing_total-s.ensures
 
-sign : (c : After-sign_at) →
-    to_z w32 (of_z w32 c.sign_at.result) ≡ sign_at (S c.before.before).args.row.now (S c.before.before).args.f c.loop-j.j
+sign : (c : After-sign_at) → to_z w32 (of_z w32 c.sign_at.result) ≡ sign_at c.args.row.now c.args.f c.loop-j.j
 sign c = back w32 _ c.sign_at.type_inv ∙ c.sign_at.ensures
 
 number : (c : In-loop-j) →
-    to_z w32 (of_z w32 (at c.loop-j.x ((S c).args.k + c.loop-j.j)))
-    ≡ at c.loop-j.x ((S c).args.k + c.loop-j.j)
+    to_z w32 (of_z w32 (at c.loop-j.x (c.args.k + c.loop-j.j))) ≡ at c.loop-j.x (c.args.k + c.loop-j.j)
 number c = reads w32 (c.loop-j.invariant.2.small _) tt
 
 pub applied_whole-z-requires : goal.applied_whole-z-requires
 applied_whole-z-requires c =
-    let s = S (goal.at.applied_whole-z-requires c).In-loop-j in
+    let g = goal.at.applied_whole-z-requires c in
     let l = c.loop-j in
-    rw (total (goal.at.applied_whole-z-requires c).After-crossing_total-s, sign (goal.at.applied_whole-z-requires c).After-sign_at, number (goal.at.applied_whole-z-requires c).In-loop-j, to_z-of_z s.fits.d) (
-      rest-element-small s.requires.0.0 l.j (inside (goal.at.applied_whole-z-requires c).In-loop-j) s.requires.0.2,
-      s.requires.0.1,
-      s.requires.0.0.sign l.j (inside (goal.at.applied_whole-z-requires c).In-loop-j),
+    rw (total g.After-crossing_total-s, sign g.After-sign_at, number g.In-loop-j, to_z-of_z c.ranges.d) (
+      rest-element-small c.requires.0.0 l.j (inside g.In-loop-j) c.requires.0.2,
+      c.requires.0.1,
+      c.requires.0.0.sign l.j (inside g.In-loop-j),
       l.invariant.2.small _,
     )
 
 -- what it becomes
 abbrev F : In-loop-j → ℤ
 F c =
-    let a = (S c).args in
+    let a = c.args in
     applied_in (rule_by a.down a.even) a.row.now a.f (to_z w32 (of_z w32 a.d)) a.v.now a.k c.loop-j.x
     (a.k + c.loop-j.j)
 
 value : (c : After-applied_whole-z) →
-    to_z w64 (of_z w64 c.applied_whole-z.result) ≡ F c.before.before.before
+    to_z w64 (of_z w64 c.applied_whole-z.result) ≡ F c.before.before.before.before
 value c =
-    let a = (S c.before.before.before).args in
+    let a = c.args in
     let l = c.loop-j in
     back w64 _ c.applied_whole-z.type_inv ∙ c.applied_whole-z.ensures
-    ∙ rw (total c.before.before, sign c.before, number c.before.before.before)
+    ∙ rw (total c.before.before.before, sign c.before.before, number c.before.before.before.before)
     (applied-from (rule_by a.down a.even) a.row.now a.f l.j (to_z w32 (of_z w32 a.d)) a.v.now
     (at l.x (a.k + l.j))
     ∙ sym (applied-in (rule_by a.down a.even) a.row.now a.f (to_z w32 (of_z w32 a.d)) a.v.now a.k l.j
@@ -67,24 +60,25 @@ value c =
 
 pub returns-then-not-is_within : goal.returns-then-not-is_within
 returns-then-not-is_within c =
-    let s = S (goal.at.returns-then-not-is_within c).In-loop-j in
+    let z = (goal.at.returns-then-not-is_within c).After-applied_whole-z in
     let l = c.loop-j in
     row-beyond (ap length l.invariant.1 ∙ length-in-place _ _ l.j _)
-    (rw (to_z-of_z s.fits.d) at
-    (turn-beyond _ (λ u. s.args.k + u) l.j s.args.x.now c.loop-j-test.true l.invariant.1
-    (test-no bound (value (goal.at.returns-then-not-is_within c).After-applied_whole-z) c.is_within.ensures (c.if-not-is_within.true))))
+    (rw (to_z-of_z c.ranges.d) at
+    (turn-beyond _ (λ u. c.args.k + u) l.j c.args.x.now c.loop-j-test.true l.invariant.1
+    (test-no bound (value z) c.is_within.ensures (c.if-not-is_within.true))))
 
-held : (c : Else-not-is_within) → Within bound (F c.before.before.before.before.before)
+held : (c : Else-not-is_within) → Within bound (F c.before.before.before.before.before.before)
 held c = test-yes bound (value c.before.before) c.is_within.ensures (c.if-not-is_within.false)
 
 pub loop-j-preserved : goal.loop-j-preserved
 loop-j-preserved c =
-    let s = S (goal.at.loop-j-preserved c).In-loop-j in
+    let g = goal.at.loop-j-preserved c in
+    let z = value g.After-applied_whole-z in
+    let h = held g.Else-not-is_within in
     let l = c.loop-j in (
       omega arith,
-      rw (value (goal.at.loop-j-preserved c).After-applied_whole-z, reads w32 (held (goal.at.loop-j-preserved c).Else-not-is_within) tt)
-          (turn-next _ (λ u. s.args.k + u) l.j s.args.x.now l.invariant.1),
-      rw (value (goal.at.loop-j-preserved c).After-applied_whole-z, reads w32 (held (goal.at.loop-j-preserved c).Else-not-is_within) tt) (bounded-set l.x (s.args.k + l.j) l.invariant.2 (held (goal.at.loop-j-preserved c).Else-not-is_within)),
+      rw (z, reads w32 h tt) (turn-next _ (λ u. c.args.k + u) l.j c.args.x.now l.invariant.1),
+      rw (z, reads w32 h tt) (bounded-set l.x (c.args.k + l.j) l.invariant.2 h),
     )
 
 pub returns : goal.returns

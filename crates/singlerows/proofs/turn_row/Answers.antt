@@ -26,7 +26,7 @@ value : (c : After-turned_number) →
     *ℤ at c.args.x.now (c.args.k + c.loop-j.j)
 value c =
     back w32 _ c.turned_number.type_inv ∙ c.turned_number.ensures
-    ∙ rw (sign c.before, number c.before.before)
+    ∙ rw (sign c.before.before, number c.before.before.before)
 
 pub loop-j-preserved : goal.loop-j-preserved
 loop-j-preserved c =

@@ -24,12 +24,13 @@ turn_row-requires c =
     let a = c.requires.0 in
     rw (sign (goal.at.turn_row-requires c).After-sign_at-d) (laid-given a c.requires.3 a.small, a.long)
 
-turned : (c : After-turn_row) → Turned (sign_at c.args.row.now c.args.fb) (D c.before.before) (c.args.i * c.args.fb.order) c.args.fb.order
-    c.args.x.now c.turn_row.new.1.1.1.1.0
+turned : (c : After-turn_row) →
+    Turned (sign_at c.args.row.now c.args.fb) (sign_at c.args.col.now c.args.fa c.args.i)
+    (c.args.i * c.args.fb.order) c.args.fb.order c.args.x.now c.turn_row.new.x
 turned c =
-    laid-turned c.requires.0 c.requires.3 (rw (sign c.before) at c.turn_row.ensures)
+    laid-turned c.requires.0 c.requires.3 (rw (sign c.before.before.before) at c.turn_row.ensures)
 
-small : (c : After-turn_row) → Bounded bound c.turn_row.new.1.1.1.1.0
+small : (c : After-turn_row) → Bounded bound c.turn_row.new.x
 small c =
     let a = c.requires.0 in
     turned-small (turned c) (a.column.sign c.args.i a.below) a.row.sign a.small
@@ -39,26 +40,28 @@ number s = s.requires.0.small.small _
 
 pub undone_beside-z-requires : goal.undone_beside-z-requires
 undone_beside-z-requires c =
-    let s = c.before in
-    let a = s.requires.0 in
-    let l = s.requires.3 in
-    rw (sign (goal.at.undone_beside-z-requires c).Start, reads w32 (number s) tt)
-    (laid-given a l (small (goal.at.undone_beside-z-requires c).After-sign_at-d), laid-narrow a l s.requires.1 (small (goal.at.undone_beside-z-requires c).After-sign_at-d), laid-column a l, number s)
+    let g = goal.at.undone_beside-z-requires c in
+    let t = small g.After-turn_row in
+    let a = c.requires.0 in
+    let l = c.requires.3 in
+    rw (sign g.After-sign_at-d, reads w32 (number g.Start) tt)
+    (laid-given a l t, laid-narrow a l c.requires.1 t, laid-column a l, number g.Start)
 
 -- what its element in column q was
 abbrev Z : After-turn_row → ℤ
 Z c =
     let k = c.args.i * c.args.fb.order in
     let q = c.args.fb.row in
-    undone_beside (rule_by c.args.down c.args.even) (D c.before.before) (sign_at c.args.row.now c.args.fb q)
-    (beside_sum c.args.row.now c.args.fb q k c.turn_row.new.1.1.1.1.0) (at c.args.x.now (k + q))
+    undone_beside (rule_by c.args.down c.args.even) (sign_at c.args.col.now c.args.fa c.args.i)
+    (sign_at c.args.row.now c.args.fb q)
+    (beside_sum c.args.row.now c.args.fb q k c.turn_row.new.x) (at c.args.x.now (k + q))
 
-value : (c : After-undone_beside-z) → to_z w64 (of_z w64 c.undone_beside-z.result) ≡ Z c.before.before
+value : (c : After-undone_beside-z) → to_z w64 (of_z w64 c.undone_beside-z.result) ≡ Z c.before
 value c =
-    let s = c.before in
+    let g = c.before.before.before.before in
     back w64 _ c.undone_beside-z.type_inv ∙ c.undone_beside-z.ensures
-    ∙ rw (sign c.before.before.before, reads w32 (number s) tt)
-    (undone-laid s.requires.0 s.requires.3 (rule_by s.args.down s.args.even) s.requires.1 s.args.x.now _)
+    ∙ rw (sign g, reads w32 (number g.before) tt)
+    (undone-laid c.requires.0 c.requires.3 (rule_by c.args.down c.args.even) c.requires.1 c.args.x.now _)
 
 room : (s : Start) → s.args.i * s.args.fb.order + s.args.fb.order ≤ length s.args.x.now
 room s =
@@ -68,26 +71,27 @@ room s =
 
 pub returns-then-not-is_within : goal.returns-then-not-is_within
 returns-then-not-is_within c =
-    let t = turned (goal.at.returns-then-not-is_within c).After-sign_at-d in
-    let s = c.before in
-    let a = s.requires.0 in
+    let g = goal.at.returns-then-not-is_within c in
+    let t = turned g.After-turn_row in
+    let a = c.requires.0 in
     row-beyond t.long
-    (undone-stops (rule_by s.args.down s.args.even) s.args.col.now s.args.fa s.args.i
-    (a.alike ∙ s.requires.1) s.requires.2 s.requires.1
-    a.row a.low s.args.x.now (room s) t refl
-    (test-no bound (value (goal.at.returns-then-not-is_within c).After-undone_beside-z) c.is_within.ensures (c.if-not-is_within.true)))
+    (undone-stops (rule_by c.args.down c.args.even) c.args.col.now c.args.fa c.args.i
+    (a.alike ∙ c.requires.1) c.requires.2 c.requires.1
+    a.row a.low c.args.x.now (room g.Start) t refl
+    (test-no bound (value g.After-undone_beside-z) c.is_within.ensures (c.if-not-is_within.true)))
 
-held : (c : Else-not-is_within) → Within bound (Z c.before.before.before.before)
+held : (c : Else-not-is_within) → Within bound (Z c.before.before.before)
 held c = test-yes bound (value c.before.before) c.is_within.ensures (c.if-not-is_within.false)
 
 pub returns : goal.returns
 returns c =
-    let t = turned (goal.at.returns c).After-sign_at-d in
-    let s = c.before in
-    let a = s.requires.0 in
-    rw (value (goal.at.returns c).After-undone_beside-z, reads w32 (held (goal.at.returns c).Else-not-is_within) tt, s.requires.3.order)
+    let g = goal.at.returns c in
+    let t = turned g.After-turn_row in
+    let h = held g.Else-not-is_within in
+    let a = c.requires.0 in
+    rw (value g.After-undone_beside-z, reads w32 h tt, c.requires.3.order)
     (row-through
-    (undone-row (rule_by s.args.down s.args.even) s.args.col.now s.args.fa s.args.i (a.alike ∙ s.requires.1)
-    s.requires.2 s.requires.1
-    a.row a.low s.args.x.now (room s) t refl)
-    (bounded-set _ _ (small (goal.at.returns c).After-sign_at-d) (held (goal.at.returns c).Else-not-is_within)))
+    (undone-row (rule_by c.args.down c.args.even) c.args.col.now c.args.fa c.args.i (a.alike ∙ c.requires.1)
+    c.requires.2 c.requires.1
+    a.row a.low c.args.x.now (room g.Start) t refl)
+    (bounded-set _ _ (small g.After-turn_row) h))

@@ -76,26 +76,28 @@ old p = p.loop-u.invariant.2.small (P p)
 
 pub undone_at-z-requires : goal.undone_at-z-requires
 undone_at-z-requires c =
-    let s = c.before in
-    rw (sign (goal.at.undone_at-z-requires c).After-sign_at-d, reads w32 (old (goal.at.undone_at-z-requires c).After-nth_undone-j) tt)
-    (s.requires.1, inside-order (goal.at.undone_at-z-requires c).After-nth_undone-j, s.requires.0.sign s.args.i s.requires.2, c.loop-u.invariant.4, old (goal.at.undone_at-z-requires c).After-nth_undone-j)
+    let g = goal.at.undone_at-z-requires c in
+    let p = g.After-nth_undone-j in
+    rw (sign g.After-sign_at-d, reads w32 (old p) tt)
+    (c.requires.1, inside-order p, c.requires.0.sign c.args.i c.requires.2, c.loop-u.invariant.4, old p)
 
 value : (c : After-undone_at-z) →
-    to_z w64 (of_z w64 c.undone_at-z.result) ≡ F c.before.before
+    to_z w64 (of_z w64 c.undone_at-z.result) ≡ F c.before.before.before.before
 value c =
-    let s = c.before in
+    let p = c.before.before.before.before in
     let l = c.loop-u in
-    let j = nth_undone s.args.fb.kind s.args.fb.order s.args.fb.row l.u in
+    let j = nth_undone c.args.fb.kind c.args.fb.order c.args.fb.row l.u in
     back w64 _ c.undone_at-z.type_inv ∙ c.undone_at-z.ensures
-    ∙ rw (sign c.before, reads w32 (old c.before.before) tt, c.nth_undone-j.ensures)
-    (recovered-sums-undo s.args.col.now s.args.fa s.args.i s.args.fb s.requires.3 s.requires.1.order s.requires.0
-    s.requires.2 l.u c.loop-u-test.true l.invariant.3 s.requires.1 (rule_by s.args.down s.args.even)
-    ∙ sym (undone-here (rule_by s.args.down s.args.even) s.args.col.now s.args.fa s.args.row.now
-    s.args.fb l.x s.args.i j
-    (rw c.nth_undone-j.ensures at (inside-order c.before.before))))
+    ∙ rw (sign c.before.before.before, reads w32 (old p) tt, c.nth_undone-j.ensures)
+    (recovered-sums-undo c.args.col.now c.args.fa c.args.i c.args.fb c.requires.3 c.requires.1.order c.requires.0
+    c.requires.2 l.u c.loop-u-test.true l.invariant.3 c.requires.1 (rule_by c.args.down c.args.even)
+    ∙ sym (undone-here (rule_by c.args.down c.args.even) c.args.col.now c.args.fa c.args.row.now
+    c.args.fb l.x c.args.i j
+    (rw c.nth_undone-j.ensures at (inside-order p))))
 
 pub returns-then-not-is_within : goal.returns-then-not-is_within
 returns-then-not-is_within c =
+    let z = value (goal.at.returns-then-not-is_within c).After-undone_at-z in
     let l = c.loop-u in
     record {
       through = λ e. let z : ◌≡◌ {A = ℕ} 0 1 = cc in absurd (omega arith);
@@ -104,12 +106,12 @@ returns-then-not-is_within c =
         before = c.loop-u-test.true;
         far =
             rw (← l.invariant.1, ← c.nth_undone-j.ensures)
-            (test-no bound (value (goal.at.returns-then-not-is_within c).After-undone_at-z) c.is_within.ensures (c.if-not-is_within.true));
+            (test-no bound z c.is_within.ensures (c.if-not-is_within.true));
       };
       keeps = ap length l.invariant.1 ∙ length-in-place _ _ l.u _;
     }
 
-held : (c : Else-not-is_within) → Within bound (F c.before.before.before.before)
+held : (c : Else-not-is_within) → Within bound (F c.before.before.before.before.before.before)
 held c = test-yes bound (value c.before.before) c.is_within.ensures (c.if-not-is_within.false)
 
 pub offset_bounds-x-e-in-loop-u : goal.offset_bounds-x-e-in-loop-u
@@ -134,17 +136,19 @@ diagonal-is-small p =
 
 diagonal : (c : After-diagonal_of) →
     to_z w32 (of_z w32 c.diagonal_of.result) ≡ diagonal_of
-    (D c.before.before.before.before.before)
+    (sign_at c.args.col.now c.args.fa c.args.i)
 diagonal c =
     back w32 _ c.diagonal_of.type_inv ∙ c.diagonal_of.ensures
-    ∙ rw (sign c.before.before.before.before)
+    ∙ rw (sign c.before.before.before.before.before.before.before)
 
 pub with_sum-requires : goal.with_sum-requires
 with_sum-requires c =
-    let o = diagonal-is-small (goal.at.with_sum-requires c).After-nth_undone-j in
+    let g = goal.at.with_sum-requires c in
+    let o = diagonal-is-small g.After-nth_undone-j in
     let v = c.loop-u.invariant.4.small c.nth_undone-j.result in
-    rw (reads w64 v tt, diagonal (goal.at.with_sum-requires c).After-diagonal_of, value (goal.at.with_sum-requires c).After-undone_at-z)
-    (fits o tt, fits (within-* o (held (goal.at.with_sum-requires c).Else-not-is_within)) tt, fits (within-+ v (within-* o (held (goal.at.with_sum-requires c).Else-not-is_within))) tt)
+    let h = held g.Else-not-is_within in
+    rw (reads w64 v tt, diagonal g.After-diagonal_of, value g.After-undone_at-z)
+    (fits o tt, fits (within-* o h) tt, fits (within-+ v (within-* o h)) tt)
 
 pub offset_bounds-v-j-in-loop-u : goal.offset_bounds-v-j-in-loop-u
 offset_bounds-v-j-in-loop-u c =     let h = column (goal.at.offset_bounds-v-j-in-loop-u c).After-nth_undone-j in omega arith
@@ -157,14 +161,13 @@ abbrev G : After-nth_undone-j → ℤ
 G p = at p.loop-u.v p.nth_undone-j.result +ℤ (diagonal_of (D p) *ℤ F p)
 
 sum_is : (c : After-with_sum) →
-    to_z w64 (of_z w64 c.with_sum.result) ≡ G c.before.before.before.before.before.before
+    to_z w64 (of_z w64 c.with_sum.result) ≡ G c.before.before.before.before.before.before.before.before.before
 sum_is c =
     back w64 _ c.with_sum.type_inv ∙ c.with_sum.ensures
     ∙ rw (
       reads w64 (c.loop-u.invariant.4.small c.nth_undone-j.result) tt,
       diagonal c.before,
-      value
-          c.before.before.before.before,
+      value c.before.before.before.before.before,
     )
 
 long : (p : After-nth_undone-j) → length p.loop-u.x ≡ 256
@@ -198,20 +201,24 @@ small p h =
 pub loop-u-preserved : goal.loop-u-preserved
 unfolding in_place
 loop-u-preserved c =
+    let g = goal.at.loop-u-preserved c in
+    let p = g.After-nth_undone-j in
+    let z = value g.After-undone_at-z in
+    let h = held g.Else-not-is_within in
+    let t = sum_is g.After-with_sum in
     let l = c.loop-u in (
       omega arith,
-      rw (add-one, value (goal.at.loop-u-preserved c).After-undone_at-z, reads w32 (held (goal.at.loop-u-preserved c).Else-not-is_within) tt, c.nth_undone-j.ensures, l.invariant.1),
-      rw (value (goal.at.loop-u-preserved c).After-undone_at-z, reads w32 (held (goal.at.loop-u-preserved c).Else-not-is_within) tt) (bounded-set l.x (P (goal.at.loop-u-preserved c).After-nth_undone-j) l.invariant.2 (held (goal.at.loop-u-preserved c).Else-not-is_within)),
-      rw (value (goal.at.loop-u-preserved c).After-undone_at-z, reads w32 (held (goal.at.loop-u-preserved c).Else-not-is_within) tt, sum_is (goal.at.loop-u-preserved c).After-with_sum) (next (goal.at.loop-u-preserved c).After-nth_undone-j),
-      rw (sum_is (goal.at.loop-u-preserved c).After-with_sum) (bounded-set l.v c.nth_undone-j.result l.invariant.4 (small (goal.at.loop-u-preserved c).After-nth_undone-j (held (goal.at.loop-u-preserved c).Else-not-is_within))),
+      rw (add-one, z, reads w32 h tt, c.nth_undone-j.ensures, l.invariant.1),
+      rw (z, reads w32 h tt) (bounded-set l.x (P p) l.invariant.2 h),
+      rw (z, reads w32 h tt, t) (next p),
+      rw t (bounded-set l.v c.nth_undone-j.result l.invariant.4 (small p h)),
       length-set l.v c.nth_undone-j.result _ ∙ l.invariant.5,
     )
 
 pub returns : goal.returns
 returns c =
-    let s = c.before in
     let l = c.loop-u in
-    let e : l.u ≡ s.args.fb.order = omega arith in
+    let e : l.u ≡ c.args.fb.order = omega arith in
     record {
       through = λ t. (l.invariant.1 ∙ rw e, l.invariant.2);
       stopped = λ t. let z : ◌≡◌ {A = ℕ} 0 1 = cc in absurd (omega arith);

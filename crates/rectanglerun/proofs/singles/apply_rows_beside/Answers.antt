@@ -29,12 +29,14 @@ pub apply_beside-r-requires : goal.apply_beside-r-requires
 unfolding limit_of
 apply_beside-r-requires c =
     let h = c.loop-s.invariant.2 in
-    (asks h (turn_below h c.loop-s-test.true (turn (goal.at.apply_beside-r-requires c).After-nth_single-i)) refl, c.requires.1, beside (goal.at.apply_beside-r-requires c).After-nth_single-i, c.requires.2)
+    let i = (goal.at.apply_beside-r-requires c).After-nth_single-i in
+    (asks h (turn_below h c.loop-s-test.true (turn i)) refl, c.requires.1, beside i, c.requires.2)
 
 pub returns-then-not-r : goal.returns-then-not-r
 unfolding limit_of element_of row_order
 returns-then-not-r c =
-    turns-stop c.loop-s.invariant.3 c.loop-s-test.true (turn (goal.at.returns-then-not-r c).After-nth_single-i) c.apply_beside-r.ensures
+    let i = (goal.at.returns-then-not-r c).After-nth_single-i in
+    turns-stop c.loop-s.invariant.3 c.loop-s-test.true (turn i) c.apply_beside-r.ensures
     (not-true _ c.if-not-r.true)
 
 pub loop-s-preserved : goal.loop-s-preserved

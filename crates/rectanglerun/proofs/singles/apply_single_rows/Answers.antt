@@ -26,15 +26,19 @@ turn s = first-applied s.args.fa (s.requires.0.alike ∙ s.requires.1) s.require
 pub returns-then-not-r : goal.returns-then-not-r
 unfolding limit_of element_of row_order
 returns-then-not-r c =
-    let h = c.requires.0 in row-stops h (some (goal.at.returns-then-not-r c).Start) (no_rows h) (turn (goal.at.returns-then-not-r c).Start) c.apply_crossing-r.ensures (not-true _ c.if-not-r.true)
+    let s = (goal.at.returns-then-not-r c).Start in
+    let h = c.requires.0 in
+    row-stops h (some s) (no_rows h) (turn s) c.apply_crossing-r.ensures (not-true _ c.if-not-r.true)
 
 first : (c : Else-not-r) →
     Rows Forward (rule_by c.args.down c.args.even) c.args.col.now c.args.fa c.args.row.now c.args.fb
     c.args.x.now 1
-    c.apply_crossing-r.new.1.1.1.1.1.1.1.0
+    c.apply_crossing-r.new.x
 unfolding limit_of element_of row_order
 first c =
-    let h = c.requires.0 in row_more h (some c.before.before.before.before) (no_rows h) (turn c.before.before.before.before) c.apply_crossing-r.ensures (not-false _ c.if-not-r.false)
+    let s = c.before.before.before.before.before.before in
+    let h = c.requires.0 in
+    row_more h (some s) (no_rows h) (turn s) c.apply_crossing-r.ensures (not-false _ c.if-not-r.false)
 
 pub returns : goal.returns
 returns c =

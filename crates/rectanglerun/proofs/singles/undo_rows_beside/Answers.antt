@@ -32,22 +32,26 @@ pub undo_beside-r-requires : goal.undo_beside-r-requires
 unfolding limit_of
 undo_beside-r-requires c =
     let h = c.loop-s.invariant.1 in
-    (asks h (turn_below h (below (goal.at.undo_beside-r-requires c).In-loop-s) (turn (goal.at.undo_beside-r-requires c).After-nth_single-i)) refl, c.requires.1, beside (goal.at.undo_beside-r-requires c).After-nth_single-i, c.requires.2)
+    let g = goal.at.undo_beside-r-requires c in
+    let i = g.After-nth_single-i in
+    (asks h (turn_below h (below g.In-loop-s) (turn i)) refl, c.requires.1, beside i, c.requires.2)
 
 pub returns-then-not-r : goal.returns-then-not-r
 unfolding limit_of element_of row_order
 returns-then-not-r c =
-    turns-stop c.loop-s.invariant.2 (below (goal.at.returns-then-not-r c).In-loop-s) (turn (goal.at.returns-then-not-r c).After-nth_single-i) c.undo_beside-r.ensures
+    let g = goal.at.returns-then-not-r c in
+    turns-stop c.loop-s.invariant.2 (below g.In-loop-s) (turn g.After-nth_single-i) c.undo_beside-r.ensures
     (not-true _ c.if-not-r.true)
 
 pub loop-s-preserved : goal.loop-s-preserved
 unfolding limit_of element_of row_order
 loop-s-preserved c =
+    let g = goal.at.loop-s-preserved c in
     let l = c.loop-s in
     let h = l.invariant.1 in
     let w = c.undo_beside-r.ensures in
     let o = not-false _ c.if-not-r.false in (
       omega arith,
       still h (w.through o).1 (w.keeps ∙ h.long),
-      turns_more l.invariant.2 (below (goal.at.loop-s-preserved c).In-loop-s) (turn (goal.at.loop-s-preserved c).After-nth_single-i) w o,
+      turns_more l.invariant.2 (below g.In-loop-s) (turn g.After-nth_single-i) w o,
     )

@@ -18,7 +18,7 @@ returns-then-not-r c =
 others : (c : Else-not-r) →
     Rows Inverse (rule_by c.args.down c.args.even) c.args.col.now c.args.fa c.args.row.now c.args.fb
     c.args.x.now
-    (c.args.fa.order - 1) c.undo_all_beside-r.new.1.1.1.1.1.1.1.1.0
+    (c.args.fa.order - 1) c.undo_all_beside-r.new.x
 others c =
     let h = c.requires.0 in
     c.undo_all_beside-r.ensures.through (not-false _ c.if-not-r.false) h (no_rows h)
@@ -34,5 +34,5 @@ pub returns : goal.returns
 unfolding limit_of element_of row_order
 returns c =
     let h = c.requires.0 in
-    row_last h (let l = h.low1 in omega arith) (others (goal.at.returns c).Else-not-r) (last-row-undone c.args.fa (h.alike ∙ c.requires.1) h.low1)
-    c.undo_crossing.ensures
+    row_last h (let l = h.low1 in omega arith) (others (goal.at.returns c).Else-not-r)
+    (last-row-undone c.args.fa (h.alike ∙ c.requires.1) h.low1) c.undo_crossing.ensures
