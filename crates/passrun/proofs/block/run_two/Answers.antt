@@ -1,5 +1,6 @@
 -- Refused at stage 0 (`run_out`); else both passes end (`ran-is`, `two_is`), refused or done.
 use Rattle.std.proofs.Common.{◌≡◌, sym, ◌∙◌}
+use borrow.Author.Tests.{not-false}
 use Rattle.factor.specs.RunReplies.{run_out, noted}
 use Rattle.factor.specs.Tasks.{ran}
 use Rattle.laws.specs.Accepted.{accepted-order, order-counts}
@@ -62,5 +63,5 @@ stored c =
 pub returns : goal.returns
 returns c =
     ends-done _ c.args.y.now _
-    (whole (goal.at.returns c).Start ∙ c.run_two_passes-r.ensures.takes c.if-not-r.false)
+    (whole (goal.at.returns c).Start ∙ c.run_two_passes-r.ensures.takes (not-false _ c.if-not-r.false))
     (stored (goal.at.returns c).After-store)
