@@ -6,9 +6,8 @@ use Rattle.rules.specs.Numbers.{count}
 use Rattle.passrun.proofs.block.run_one_pass.Goals as goal
 use Rattle.passrun.proofs.block.run_one_pass.Goals.{After-lay}
 
--- The lent numbers in their lines, then the stages (`one-reaches`).
 pub count_at-requires : goal.count_at-requires
-count_at-requires c =     order-counts c.requires.0.sheet
+count_at-requires c = order-counts c.requires.0.sheet
 
 pub lay-requires : goal.lay-requires
 lay-requires c =
@@ -19,13 +18,20 @@ lay-requires c =
 
 -- the block then, of the order itself
 laid_in : (l : After-lay) → let a = l.args in
-    LaidIn a.columns a.many (count a.sheet.now 0) a.x.now l.lay.new.1.1.1.1.0
+    LaidIn a.columns a.many (count a.sheet.now 0) a.x.now l.lay.new.b
 laid_in l = rw l.count_at.ensures at l.lay.ensures
 
 pub run_pass-requires : goal.run_pass-requires
 run_pass-requires c =
     let p = c.requires.0 in
-    (p.sheet, p.places, p.most, c.requires.1, laid-small c.args.columns c.args.run p (laid_in (goal.at.run_pass-requires c).After-lay), c.lay.ensures.wide)
+    (
+      p.sheet,
+      p.places,
+      p.most,
+      c.requires.1,
+      laid-small c.args.columns c.args.run p (laid_in (goal.at.run_pass-requires c).After-lay),
+      c.lay.ensures.wide,
+    )
 
 pub returns : goal.returns
 returns c =

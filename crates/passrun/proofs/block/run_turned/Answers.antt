@@ -7,9 +7,8 @@ use Rattle.rules.specs.Numbers.{count}
 use Rattle.passrun.proofs.block.run_turned.Goals as goal
 use Rattle.passrun.proofs.block.run_turned.Goals.{After-turn}
 
--- The lines are the others (`turned-done`).
 pub count_at-requires : goal.count_at-requires
-count_at-requires c =     order-counts c.requires.0
+count_at-requires c = order-counts c.requires.0
 
 pub turn-requires : goal.turn-requires
 turn-requires c =
@@ -18,7 +17,7 @@ turn-requires c =
 
 -- the block then, by the order itself
 made : (t : After-turn) → let a = t.args in
-    t.turn.new.1.1.0 ≡ turned (count a.sheet.now 0) a.w a.b.now
+    t.turn.new.x ≡ turned (count a.sheet.now 0) a.w a.b.now
 made t = rw t.count_at.ensures at t.turn.ensures
 
 pub run_pass-requires : goal.run_pass-requires

@@ -30,13 +30,14 @@ whole s =
 pub returns-then-not-r : goal.returns-then-not-r
 returns-then-not-r c =
     let a = c.args in
-    ends-refused a.run.task a.y.now (whole (goal.at.returns-then-not-r c).Start ∙ c.element_of_two.ensures) c.note-then-not-r.ensures
+    ends-refused a.run.task a.y.now (whole (goal.at.returns-then-not-r c).Start ∙ c.element_of_two.ensures)
+    c.note-then-not-r.ensures
 
 pub count_at-requires : goal.count_at-requires
-count_at-requires c =     order-counts c.requires.one
+count_at-requires c = order-counts c.requires.one
 
 pub count_at-requires-2 : goal.count_at-requires-2
-count_at-requires-2 c =     order-counts c.requires.next
+count_at-requires-2 c = order-counts c.requires.next
 
 pub store-requires : goal.store-requires
 store-requires c =
@@ -50,10 +51,10 @@ store-requires c =
 
 -- the output, of the orders themselves
 stored : (c : After-store) → let a = c.args in
-    c.store.new.1.1.1.1.0
+    c.store.new.y
     ≡ laid (two_size a.columns a.first.now a.second.now)
     (one_lines (other a.columns) (count a.first.now 0) a.second.now)
-    c.run_two_passes-r.new.1.1.1.1.1.1.1.0
+    c.run_two_passes-r.new.b
 stored c =
     let a = c.args in
     stored-as a.columns a.first.now a.second.now _ c.count_at.ensures c.count_at-2.ensures
@@ -61,4 +62,6 @@ stored c =
 
 pub returns : goal.returns
 returns c =
-    ends-done _ c.args.y.now _ (whole (goal.at.returns c).Start ∙ c.run_two_passes-r.ensures.takes (not-false _ c.if-not-r.false)) (stored (goal.at.returns c).After-store)
+    ends-done _ c.args.y.now _
+    (whole (goal.at.returns c).Start ∙ c.run_two_passes-r.ensures.takes (not-false _ c.if-not-r.false))
+    (stored (goal.at.returns c).After-store)
