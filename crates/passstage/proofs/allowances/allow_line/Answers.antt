@@ -18,20 +18,22 @@ allowed_at-z-requires c =
     rw c.loop-m.invariant.1 (c.requires.0, c.loop-m-test.true, lane-bounded c.args.l c.requires.2)
 
 value : (c : After-allowed_at-z) →
-    to_z w64 (of_z w64 c.allowed_at-z.result) ≡ G c.before.before.before.before c.loop-m.m
+    to_z w64 (of_z w64 c.allowed_at-z.result)
+    ≡ allowed_at c.args.rule c.args.sheet.now c.args.f (lane c.args.l c.args.x.now) c.loop-m.m
 value c = back w64 _ c.allowed_at-z.type_inv ∙ c.allowed_at-z.ensures ∙ rw c.loop-m.invariant.1
 
-length-after : (c : After-keep) → length c.keep.new.1.1.0 ≡ 256
+length-after : (c : After-keep) → length c.keep.new.x ≡ 256
 length-after c = search rules
 
 pub returns-then-not-keep : goal.returns-then-not-keep
 returns-then-not-keep c =
     let q = rw (value (goal.at.returns-then-not-keep c).After-allowed_at-z) at c.keep.ensures in
-    line-beyond c.args.l (G (goal.at.returns-then-not-keep c).Start) c.args.x.now c.requires.1 c.requires.3 c.requires.0.order c.loop-m-test.true
-    (kept-no q (c.if-not-keep.true)) (length-after (goal.at.returns-then-not-keep c).After-keep)
+    line-beyond c.args.l (G (goal.at.returns-then-not-keep c).Start) c.args.x.now c.requires.1 c.requires.3 c.requires.0.order
+    c.loop-m-test.true (kept-no q c.if-not-keep.true) (length-after (goal.at.returns-then-not-keep c).After-keep)
 
 pub returns : goal.returns
 returns c =
     let l = c.loop-m in
     let e : l.m ≡ c.args.f.order = omega arith in
-    line-filled c.args.l (G (goal.at.returns c).Start) c.args.x.now c.requires.1 c.requires.3 c.requires.0.order (rw e at l.invariant.2) l.invariant.3
+    line-filled c.args.l (G (goal.at.returns c).Start) c.args.x.now c.requires.1 c.requires.3 c.requires.0.order
+    (rw e at l.invariant.2) l.invariant.3

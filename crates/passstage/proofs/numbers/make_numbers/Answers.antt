@@ -28,32 +28,37 @@ number c =
 part : (c : In-loop-l) (e : ℕ) → to_z w32 (of_z w32 (at c.args.v.now e)) ≡ at c.args.v.now e
 part c e = reads w32 (c.requires.1.small e) tt
 
+abbrev turn : After-rounded → In-loop-l
+turn c = c.before.before.before.before
+
 rounded : (c : After-rounded) →
     to_z w32 (of_z w32 c.rounded.result) ≡ R (rule_by c.args.down c.args.even) unit
     (joined c.args.v.now c.loop-l.l)
 rounded c =
     let l = c.loop-l.l in
-    back w32 _ c.rounded.type_inv ∙ c.rounded.ensures.0 ∙ rw (part c.before l, part c.before (16 + l))
+    back w32 _ c.rounded.type_inv ∙ c.rounded.ensures.0 ∙ rw (part (turn c) l, part (turn c) (16 + l))
 
 pub made-z-requires : goal.made-z-requires
 made-z-requires c =
-    rw (back w32 c.rounded.result c.rounded.type_inv, number (goal.at.made-z-requires c).In-loop-l, to_z-of_z c.ranges.d) (
+    let i = (goal.at.made-z-requires c).In-loop-l in
+    rw (back w32 c.rounded.result c.rounded.type_inv, number i, to_z-of_z c.ranges.d) (
       c.requires.0.sign,
       c.requires.0.small.small (c.args.k + c.loop-l.l),
       c.rounded.ensures.1,
     )
 
 value : (c : After-made-z) →
-    to_z w32 (of_z w32 c.made-z.result) ≡ Z c.before.before.before.before c.loop-l.l
+    to_z w32 (of_z w32 c.made-z.result) ≡ Z (turn c.before).before.before c.loop-l.l
 value c =
-    back w32 _ c.made-z.type_inv ∙ c.made-z.ensures ∙ rw (rounded c.before, number c.before.before, to_z-of_z c.ranges.d)
+    back w32 _ c.made-z.type_inv ∙ c.made-z.ensures ∙ rw (rounded c.before, number (turn c.before), to_z-of_z c.ranges.d)
 
 pub loop-l-preserved : goal.loop-l-preserved
 loop-l-preserved c =
     let l = c.loop-l in
-    let told = rw (back w64 _ c.wide.type_inv, c.wide.ensures, value (goal.at.loop-l-preserved c).After-made-z) at c.is_within-fine.ensures in (
+    let v = value (goal.at.loop-l-preserved c).After-made-z in
+    let told = rw (back w64 _ c.wide.type_inv, c.wide.ensures, v) at c.is_within-fine.ensures in (
       omega arith,
-      rw (value (goal.at.loop-l-preserved c).After-made-z, to_z-of_z c.ranges.d)
+      rw (v, to_z-of_z c.ranges.d)
           (row_next c.args.k l.l (Z (goal.at.loop-l-preserved c).Start) c.args.x.now (rw (to_z-of_z c.ranges.d) at l.invariant.1)),
       rw (to_z-of_z c.ranges.d) (judged-next l.l (rw (to_z-of_z c.ranges.d) at l.invariant.2) told),
     )

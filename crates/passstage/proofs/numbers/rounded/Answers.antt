@@ -9,7 +9,6 @@ use Rattle.whole.specs.Machine.{within-le, within-pos, within-+, within-shr, fit
 use Rattle.passstage.proofs.numbers.rounded.Goals as goal
 use Rattle.passstage.proofs.numbers.rounded.Goals.{After-lift-a, After-wide, Start}
 
--- Whole units pass through the floor (`rounds-parts`), and all that is added is small.
 -- whole units of the rests
 carry : (s : Start) → to_z w32 (of_z w32 (shr_z (to_z w32 (of_z w32 s.args.l)) unit)) ≡ shr_z s.args.l unit
 carry s = rw (to_z-of_z s.ranges.l) (reads w32 (within-shr unit s.requires.1) tt)
@@ -46,7 +45,7 @@ sum-small s = within-+ s.requires.1 (lift-small s)
 pub overflow_add-result : goal.overflow_add-result
 overflow_add-result c =
     let s = start (goal.at.overflow_add-result c).After-lift-a in
-    rw (lifted (goal.at.overflow_add-result c).After-lift-a, reads w32 (lift-small s) tt, to_z-of_z s.fits.l) (fits (sum-small s) tt)
+    rw (lifted (goal.at.overflow_add-result c).After-lift-a, reads w32 (lift-small s) tt, to_z-of_z s.ranges.l) (fits (sum-small s) tt)
 
 new-small : (s : Start) → Within most_new (s.args.h +ℤ shr_z (s.args.l +ℤ pos (A s)) unit)
 new-small s = within-+ s.requires.0 (carry-small (sum-small s))
@@ -57,10 +56,10 @@ overflow_add-result-2 c =
     rw (
       lifted (goal.at.overflow_add-result-2 c).After-lift-a,
       reads w32 (lift-small s) tt,
-      to_z-of_z s.fits.l,
+      to_z-of_z s.ranges.l,
       reads w32 (sum-small s) tt,
       reads w32 (within-shr unit (sum-small s)) tt,
-      to_z-of_z s.fits.h,
+      to_z-of_z s.ranges.h,
     ) (fits (new-small s) tt)
 
 pub returns : goal.returns
@@ -69,10 +68,10 @@ returns c =
     rw (
       lifted (goal.at.returns c).After-lift-a,
       reads w32 (lift-small s) tt,
-      to_z-of_z s.fits.l,
+      to_z-of_z s.ranges.l,
       reads w32 (sum-small s) tt,
       reads w32 (within-shr unit (sum-small s)) tt,
-      to_z-of_z s.fits.h,
+      to_z-of_z s.ranges.h,
       reads w32 (new-small s) tt,
     )
     (rounds-parts s.args.down s.args.even s.args.h s.args.l, new-small s)
