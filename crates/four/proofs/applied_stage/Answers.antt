@@ -28,11 +28,10 @@ returns-in-Permutation c =
 
 pub lower-requires : goal.lower-requires
 unfolding signs_at entries_of triangle
-lower-requires c =
-    (
-      factor-in c.requires.0 Lower (λ e. never (cc)) (sym c.kind_at-kind.ensures ∙ c.in-Lower.is),
-      c.requires.1,
-    )
+lower-requires c = (
+  factor-in c.requires.0 Lower (λ e. never (cc)) (sym c.kind_at-kind.ensures ∙ c.in-Lower.is),
+  c.requires.1,
+)
 
 pub returns-in-Lower : goal.returns-in-Lower
 returns-in-Lower c =
@@ -42,11 +41,10 @@ returns-in-Lower c =
 
 pub upper-requires : goal.upper-requires
 unfolding signs_at entries_of triangle
-upper-requires c =
-    (
-      factor-in c.requires.0 Upper (λ e. never (cc)) (sym c.kind_at-kind.ensures ∙ c.in-Upper.is),
-      c.requires.1,
-    )
+upper-requires c = (
+  factor-in c.requires.0 Upper (λ e. never (cc)) (sym c.kind_at-kind.ensures ∙ c.in-Upper.is),
+  c.requires.1,
+)
 
 pub returns-in-Upper : goal.returns-in-Upper
 returns-in-Upper c =
@@ -67,8 +65,7 @@ count_at-requires c = row_counts (row (goal.at.count_at-requires c).In-Single)
 pub single-requires : goal.single-requires
 unfolding signs_at entries_of
 single-requires c =
-    let w = (goal.at.single-requires c).In-Single in
-    (
+    let w = (goal.at.single-requires c).In-Single in (
       factor-in c.requires.0 Single (λ e. never (cc)) (kind w),
       rw c.count_at.ensures (row_is (row w)).1,
       c.requires.1,

@@ -22,7 +22,7 @@ value :
     (c : After-whole_sum-s) →
     to_z w64 (of_z w64 c.whole_sum-s.result)
     ≡ across c.args.row.now (row_of c.args.f c.args.j) c.args.j
-      (diagonal_of (sign_at c.args.row.now c.args.f c.args.j)) (at c.args.v.now)
+    (diagonal_of (sign_at c.args.row.now c.args.f c.args.j)) (at c.args.v.now)
 value c =
     back w64 _ c.whole_sum-s.type_inv ∙ c.whole_sum-s.ensures
     ∙ rw (diagonal c.before.before, c.row_of.ensures, reads w64 (c.requires.2.small c.args.j) tt)

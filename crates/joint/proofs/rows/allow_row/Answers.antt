@@ -21,7 +21,7 @@ link :
     (c : After-magnitude_sums_at) (j : ℕ) → j < c.args.fb.order →
     allowed_of c.args.rule c.args.col.now c.args.fa c.args.row.now c.args.fb c.args.x.now (c.args.i * c.args.fb.order + j)
     ≡ G c.args.rule c.args.row.now c.args.fb c.is_whole_row-whole.result c.magnitude_sums_at.new.v c.args.x.now
-      (c.args.i * c.args.fb.order + j)
+    (c.args.i * c.args.fb.order + j)
 link c j l =
     let s = c.args in
     allowed-here s.rule s.col.now s.fa s.row.now s.fb s.x.now s.i j l
@@ -49,7 +49,7 @@ value :
     (c : After-allowed_at-z) →
     to_z w64 (of_z w64 c.allowed_at-z.result)
     ≡ G c.args.rule c.args.row.now c.args.fb c.is_whole_row-whole.result c.magnitude_sums_at.new.v c.args.x.now
-      (c.args.i * c.args.fb.order + c.loop-j.j)
+    (c.args.i * c.args.fb.order + c.loop-j.j)
 value c =
     let a = c.args in
     let l = c.loop-j in
@@ -79,8 +79,7 @@ unfolding in_place
 loop-j-preserved c =
     let l = c.loop-j in
     let v = value (goal.at.loop-j-preserved c).After-allowed_at-z in
-    let h = test-yes most_allowance v c.is_within.ensures c.if-not-is_within.false in
-    (
+    let h = test-yes most_allowance v c.is_within.ensures c.if-not-is_within.false in (
       omega arith,
       rw (add-one, v, reads w32 h tt, l.invariant.1),
       rw (v, reads w32 h tt) (bounded-set l.x (c.args.i * c.args.fb.order + l.j) l.invariant.2 h),

@@ -6,7 +6,7 @@ use Rattle.joint.proofs.sums.add_rows.Goals as goal
 use Rattle.joint.proofs.sums.add_rows.Goals.{In-loop-j}
 
 pub loop-j-init : goal.loop-j-init
-loop-j-init c =     (omega arith, added_none c.requires)
+loop-j-init c = (omega arith, added_none c.requires)
 
 -- row j lies in the block
 row : (i : In-loop-j) →

@@ -15,8 +15,7 @@ small s = within-- (s.requires.2.small s.args.m) (within-* s.requires.1 s.requir
 
 pub without-requires : goal.without-requires
 without-requires c =
-    rw (reads w64 (c.requires.2.small c.args.m) tt, reads w32 c.requires.1 tt, reads w32 c.requires.3 tt)
-    (
+    rw (reads w64 (c.requires.2.small c.args.m) tt, reads w32 c.requires.1 tt, reads w32 c.requires.3 tt) (
       fits c.requires.1 tt,
       fits c.requires.3 tt,
       fits (within-* c.requires.1 c.requires.3) tt,

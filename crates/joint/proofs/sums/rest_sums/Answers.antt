@@ -5,7 +5,7 @@ use Rattle.joint.proofs.sums.rest_sums.Goals as goal
 
 -- The rows above, then the rows below (`rest-rows`).
 pub add_rows-requires : goal.add_rows-requires
-add_rows-requires c =     rw c.requires.3 (above c.requires.0 c.requires.1 c.requires.2)
+add_rows-requires c = rw c.requires.3 (above c.requires.0 c.requires.1 c.requires.2)
 
 pub add_rows-requires-2 : goal.add_rows-requires-2
 add_rows-requires-2 c =

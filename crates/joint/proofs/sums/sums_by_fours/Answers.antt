@@ -20,7 +20,7 @@ rows i =
     side-four h (4 * i.loop-g.g) 0 (columns i) (omega (arith, h.few)) (nothing 16) refl
 
 pub add_rows-requires : goal.add_rows-requires
-add_rows-requires c =     rows (goal.at.add_rows-requires c).In-loop-g
+add_rows-requires c = rows (goal.at.add_rows-requires c).In-loop-g
 
 pub put_four-requires : goal.put_four-requires
 put_four-requires c =

@@ -30,11 +30,10 @@ add_rows-requires c =
     rw (c.add_row.ensures, to_z-of_z c.ranges.diagonal) (rows (goal.at.add_rows-requires c).In-loop-g)
 
 pub put_four-requires : goal.put_four-requires
-put_four-requires c =
-    (
-      omega (arith, columns (goal.at.put_four-requires c).In-loop-g, c.requires.0.wide),
-      rw (c.add_rows.ensures, c.add_row.ensures, to_z-of_z c.ranges.diagonal) (adding-all-small (rows (goal.at.put_four-requires c).In-loop-g)),
-    )
+put_four-requires c = (
+  omega (arith, columns (goal.at.put_four-requires c).In-loop-g, c.requires.0.wide),
+  rw (c.add_rows.ensures, c.add_row.ensures, to_z-of_z c.ranges.diagonal) (adding-all-small (rows (goal.at.put_four-requires c).In-loop-g)),
+)
 
 pub loop-g-preserved : goal.loop-g-preserved
 loop-g-preserved c =

@@ -8,7 +8,7 @@ use Rattle.joint.proofs.sums.whole_sum.Goals as goal
 use Rattle.joint.proofs.sums.whole_sum.Goals.{After-wide_sum-2, Start}
 
 pub wide_sum-requires-2 : goal.wide_sum-requires-2
-wide_sum-requires-2 c =     right-wide c.requires.0 c.requires.1
+wide_sum-requires-2 c = right-wide c.requires.0 c.requires.1
 
 abbrev S : Start → ℤ
 S s = entries_sum s.args.a.now s.args.r s.args.m (at s.args.v.now)
@@ -25,7 +25,7 @@ small s = entries-small s.requires.0 (at s.args.v.now) s.requires.1.small
 
 pub overflow_add-sum : goal.overflow_add-sum
 overflow_add-sum c =
-        rw (value (goal.at.overflow_add-sum c).After-wide_sum-2) (fits (small (goal.at.overflow_add-sum c).Start) tt)
+    rw (value (goal.at.overflow_add-sum c).After-wide_sum-2) (fits (small (goal.at.overflow_add-sum c).Start) tt)
 
 pub with_sum-requires : goal.with_sum-requires
 with_sum-requires c =
