@@ -10,7 +10,7 @@ use Rattle.laws.specs.AnswersInTurn.{ran_reply}
 use Rattle.rectanglerun.specs.Runs.{joint_ran, joint_run_by, stages-good, size-most}
 use Rattle.rules.specs.declared.Answer.{Answer}
 use Rattle.rectanglerun.proofs.block.run_block.Goals as goal
-use Rattle.rectanglerun.proofs.block.run_block.Goals.{After-load-from, After-run_stages-r, Start}
+use Rattle.rectanglerun.proofs.block.run_block.Goals.{Start}
 
 pub returns-then-not-is_inside : goal.returns-then-not-is_inside
 returns-then-not-is_inside c =
@@ -20,14 +20,12 @@ returns-then-not-is_inside c =
     (noted (rw c.first_beyond.ensures at c.note.ensures)))
 
 pub count_at-n1-requires : goal.count_at-n1-requires
-count_at-n1-requires c =     order-counts c.requires.0.column
+count_at-n1-requires c =
+    order-counts c.requires.0.column
 
 pub count_at-n2-requires : goal.count_at-n2-requires
-count_at-n2-requires c =     order-counts c.requires.0.row
-
--- after the copy in
-abbrev L : After-run_stages-r → After-load-from
-L c = c.before.before.before.before
+count_at-n2-requires c =
+    order-counts c.requires.0.row
 
 -- the reply to the run of the block in its room is the reply to the run of the lent numbers
 replies :
@@ -46,17 +44,13 @@ replies s h =
 
 pub returns-then-not-r : goal.returns-then-not-r
 returns-then-not-r c =
-    let l = L (goal.at.returns-then-not-r c).After-run_stages-r in
-    let s = l.before.before.before.before in
-    let q = (c.run_stages-r.ensures.0.stops (not-true _ c.if-not-r.true)).2 _ l.load.ensures.stands in
-    replies s
-    (ended-noted (number_of s.args.run.task) s.args.y.now q.is c.note-then-not-r.ensures c.element.ensures)
+    let q = (c.run_stages-r.ensures.0.stops (not-true _ c.if-not-r.true)).2 _ c.load-from.ensures.stands in
+    replies (goal.at.returns-then-not-r c).Start
+    (ended-noted (number_of c.args.run.task) c.args.y.now q.is c.note-then-not-r.ensures c.element.ensures)
 
 pub returns : goal.returns
 unfolding end_answer
 returns c =
-    let l = L (goal.at.returns c).After-run_stages-r in
-    let s = l.before.before.before.before in
-    let on = c.run_stages-r.ensures.0.passes (not-false _ c.if-not-r.false) _ l.load.ensures.stands in
+    let on = c.run_stages-r.ensures.0.passes (not-false _ c.if-not-r.false) _ c.load-from.ensures.stands in
     let z = c.store.ensures _ on in
-    replies s (ended-done (number_of s.args.run.task) s.args.y.now z.ends refl z.written)
+    replies (goal.at.returns c).Start (ended-done (number_of c.args.run.task) c.args.y.now z.ends refl z.written)

@@ -12,36 +12,34 @@ use Rattle.rules.specs.Factors.{factor_at}
 use Rattle.rules.specs.Numbers.{count}
 use Rattle.rules.specs.Shapes.{joint_stage}
 use Rattle.rectanglerun.proofs.runs.run_stages.Goals as goal
-use Rattle.rectanglerun.proofs.runs.run_stages.Goals.{After-nth_start-j, After-run_stage-r, At-loop-t, In-loop-t, Start}
-
--- where the function began
-abbrev S : At-loop-t → Start
-S l = l.before
+use Rattle.rectanglerun.proofs.runs.run_stages.Goals.{After-nth_start-j, After-run_stage-r, In-loop-t}
 
 -- the stage in turn
 abbrev T : In-loop-t → ℕ
-T c = let a = (S c.before).args in nth_stage a.run.task (count a.col.now 1) c.loop-t.t
+T c = nth_stage c.args.run.task (count c.args.col.now 1) c.loop-t.t
 
-in-turn : (c : In-loop-t) → c.loop-t.t < count (S c.before).args.col.now 1
-in-turn c = let m = (S c.before).pre.6 in omega arith
+in-turn : (c : In-loop-t) → c.loop-t.t < count c.args.col.now 1
+in-turn c = let m = c.requires.6 in omega arith
 
-agree : (c : In-loop-t) → let a = (S c.before).args in count a.row.now 1 ≡ count a.col.now 1
-agree c = counts-agree _ _ (S c.before).pre.0.match
+agree : (c : In-loop-t) → count c.args.row.now 1 ≡ count c.args.col.now 1
+agree c = counts-agree _ _ c.requires.0.match
 
 pub nth_start-j-requires : goal.nth_start-j-requires
 nth_start-j-requires c =
-    let s = S (goal.at.nth_start-j-requires c).At-loop-t in (s.requires.0.row, s.requires.2, rw (agree (goal.at.nth_start-j-requires c).In-loop-t) (in-turn (goal.at.nth_start-j-requires c).In-loop-t))
+    let i = (goal.at.nth_start-j-requires c).In-loop-t in
+    (c.requires.0.row, c.requires.2, rw (agree i) (in-turn i))
 
 -- where its factor of the row sheet starts
-row : (c : After-nth_start-j) → c.nth_start-j.result ≡ start (S c.before.before.before).args.row.now (T c.before.before)
+row : (c : After-nth_start-j) → c.nth_start-j.result ≡ start c.args.row.now (T c.before.before)
 row c = c.nth_start-j.ensures ∙ rw (agree c.before.before)
 
 pub run_stage-r-requires : goal.run_stage-r-requires
 run_stage-r-requires c =
+    let g = goal.at.run_stage-r-requires c in
+    let i = g.In-loop-t in
     let l = c.loop-t in
-    let s = S (goal.at.run_stage-r-requires c).At-loop-t in
-    let p = paired s.requires.0 (T (goal.at.run_stage-r-requires c).In-loop-t) (stage-below _ _ _ (in-turn (goal.at.run_stage-r-requires c).In-loop-t)) s.requires.3 s.requires.4 c.nth_start-i.ensures
-    (row (goal.at.run_stage-r-requires c).After-nth_start-j) in
+    let p = paired c.requires.0 (T i) (stage-below _ _ _ (in-turn i)) c.requires.3 c.requires.4 c.nth_start-i.ensures
+    (row g.After-nth_start-j) in
     (p, l.invariant.2, l.invariant.3)
 
 -- the stage, of the orders themselves
@@ -54,37 +52,42 @@ of-orders run c r v f a b d e h = rw (a, b, d, e) at h
 
 told :
     (c : After-run_stage-r) →
-    let a = (S c.before.before.before.before).args in
+    let a = c.args in
     let N = size_of a.col.now a.row.now in
-    Step (limit_of a.run.task) N (taken_by a.run N (at_stage a.col.now a.row.now (T c.before.before.before)) c.loop-t.x)
-    c.run_stage-r.result.ok c.run_stage-r.new.1.1.1.1.1.1.1.0
+    Step (limit_of a.run.task) N
+    (taken_by a.run N (at_stage a.col.now a.row.now (nth_stage a.run.task (count a.col.now 1) c.loop-t.t)) c.loop-t.x)
+    c.run_stage-r.result.ok c.run_stage-r.new.x
 told c =
-    let s = S c.before.before.before.before in
-    of-orders s.args.run _ _ _ _ s.requires.3 s.requires.4 c.nth_start-i.ensures (row c.before) c.run_stage-r.ensures.0
+    of-orders c.args.run _ _ _ _ c.requires.3 c.requires.4 c.nth_start-i.ensures (row c.before.before)
+    c.run_stage-r.ensures.0
 
 pub returns-then-not-r : goal.returns-then-not-r
 returns-then-not-r c =
-    let a = (S (goal.at.returns-then-not-r c).At-loop-t).args in
-    let all = left-listed a.col.now a.row.now a.run.task in
+    let g = goal.at.returns-then-not-r c in
+    let n = in-turn g.In-loop-t in
+    let all = left-listed c.args.col.now c.args.row.now c.args.run.task in
     let no = not-true _ c.if-not-r.true in (
       progress-stops c.loop-t.t c.loop-t-test.true
-          (λ ran h. refused-there (stage-stops all c.loop-t.t (in-turn (goal.at.returns-then-not-r c).In-loop-t) (c.loop-t.invariant.1 ran h) (told (goal.at.returns-then-not-r c).After-run_stage-r) no)),
+          (λ ran h. refused-there
+          (stage-stops all c.loop-t.t n (c.loop-t.invariant.1 ran h) (told g.After-run_stage-r) no)),
       c.run_stage-r.ensures.1,
     )
 
 pub loop-t-preserved : goal.loop-t-preserved
 loop-t-preserved c =
+    let g = goal.at.loop-t-preserved c in
+    let n = in-turn g.In-loop-t in
+    let t = told g.After-run_stage-r in
     let i = c.loop-t.invariant in
-    let a = (S (goal.at.loop-t-preserved c).At-loop-t).args in
-    let all = left-listed a.col.now a.row.now a.run.task in
+    let all = left-listed c.args.col.now c.args.row.now c.args.run.task in
     let yes = not-false _ c.if-not-r.false in (
       omega arith,
-      λ ran h. stage-passes all c.loop-t.t (in-turn (goal.at.loop-t-preserved c).In-loop-t) (i.1 ran h) (told (goal.at.loop-t-preserved c).After-run_stage-r) yes,
-      ((told (goal.at.loop-t-preserved c).After-run_stage-r).takes yes).1,
+      λ ran h. stage-passes all c.loop-t.t n (i.1 ran h) t yes,
+      (t.takes yes).1,
       c.run_stage-r.ensures.1,
     )
 
 pub returns : goal.returns
 returns c =
-    let e : c.loop-t.t ≡ (S (goal.at.returns c).At-loop-t).args.to = omega (arith, c.loop-t.invariant.0) in
+    let e : c.loop-t.t ≡ c.args.to = omega (arith, c.loop-t.invariant.0) in
     (progress-passes (rw e at c.loop-t.invariant.1), c.loop-t.invariant.3)

@@ -6,7 +6,6 @@ use Rattle.factor.specs.MovedInPlace.{moved-bounded, moved-scattered, length-sca
 use Rattle.factor.specs.Rounding.{rule_by, by_tests}
 use Rattle.factor.specs.Steps.{Step, step-moves}
 use Rattle.factor.specs.Tasks.{limit_of, taken_by}
-use Rattle.factor.specs.declared.Layout.{Layout}
 use Rattle.factor.specs.declared.run.Task.{Task}
 use Rattle.rectanglerun.specs.RowsInTurn.{Weighable, Weighed}
 use Rattle.rectanglerun.specs.StagesAgree.{moves-are, stage-asks, stage-weighed}
@@ -16,7 +15,7 @@ use Rattle.rules.specs.Shapes.{joint_stage}
 use Rattle.rules.specs.Sheets.{kind_of}
 use Rattle.rules.specs.declared.Kind.TheVariants.{Permutation}
 use Rattle.rectanglerun.proofs.stages.run_stage.Goals as goal
-use Rattle.rectanglerun.proofs.stages.run_stage.Goals.{After-is_even-even, After-layout_at-fb, Else-is_move, Start, Then-is_move}
+use Rattle.rectanglerun.proofs.stages.run_stage.Goals.{After-is_even-even, Then-is_move}
 
 -- ---- a pair of permutations
 permutes : (c : Then-is_move) → kind_of (count c.args.row.now c.args.j) ≡ Permutation
@@ -35,61 +34,49 @@ unfolding layout_at layout_by
 returns-then-is_move c =
     let x = c.args.x.now in
     let p = c.requires.0 in
+    let q = permutes (goal.at.returns-then-is_move c).Then-is_move in
     let e = rw (c.layout_at-fa.ensures, c.layout_at-fb.ensures) at c.move_pair.ensures in (
-      step-moves e (moves-are _ _ _ _ _ _ p.match (p.match ∙ permutes (goal.at.returns-then-is_move c).Then-is_move) c.args.run x) (moved-bounded _ _ _ c.requires.1),
+      step-moves e (moves-are _ _ _ _ _ _ p.match (p.match ∙ q) c.args.run x) (moved-bounded _ _ _ c.requires.1),
       ap length (e ∙ moved-scattered _ _ _ x) ∙ length-scattered _ _ _ x ∙ c.requires.2,
     )
 
 -- ---- a pair of factors with weights: what its rows ask, and that they are the stage
 module _ (w : After-is_even-even) where
-  abbrev e : Else-is_move
-  e = w.before.before
+  weighs : is_move w.layout_at-fb.result.kind ≡ false
+  weighs = sym w.is_move.ensures ∙ w.if-is_move.false
 
-  abbrev l : After-layout_at-fb
-  l = e.before.before
-
-  abbrev s : Start
-  s = l.before.before
-
-  abbrev fa : Layout
-  fa = l.before.layout-at.result
-
-  abbrev fb : Layout
-  fb = l.layout-at2.result
-
-  weighs : is_move fb.kind ≡ false
-  weighs = sym e.before.is_move.ensures ∙ e.if1.left
-
-  module _ {task : Task} (t : s.args.run.task ≡ task) where
-    asks : Weighable task s.args.col.now fa s.args.row.now fb s.args.x.now
+  module _ {task : Task} (t : w.args.run.task ≡ task) where
+    asks : Weighable task w.args.col.now w.layout_at-fa.result w.args.row.now w.layout_at-fb.result w.args.x.now
     asks =
-        stage-asks s.requires.0 l.before.layout-at.ensures l.layout-at2.ensures weighs s.args.run t s.requires.1
-        s.requires.2
+        stage-asks w.requires.0 w.layout_at-fa.ensures w.layout_at-fb.ensures weighs w.args.run t w.requires.1
+        w.requires.2
 
     told : {ok : Bool} {y : List ℤ} →
-        Weighed task s.args.run.rule s.args.col.now fa s.args.row.now fb s.args.x.now ok y →
-        Step (limit_of s.args.run.task) (s.args.n1 * s.args.n2)
-        (taken_by s.args.run (s.args.n1 * s.args.n2)
-        (joint_stage s.args.n1 s.args.n2 (factor_at s.args.col.now s.args.n1 s.args.i)
-        (factor_at s.args.row.now s.args.n2 s.args.j)) s.args.x.now) ok y
+        Weighed task w.args.run.rule w.args.col.now w.layout_at-fa.result w.args.row.now w.layout_at-fb.result
+        w.args.x.now ok y →
+        Step (limit_of w.args.run.task) (w.args.n1 * w.args.n2)
+        (taken_by w.args.run (w.args.n1 * w.args.n2)
+        (joint_stage w.args.n1 w.args.n2 (factor_at w.args.col.now w.args.n1 w.args.i)
+        (factor_at w.args.row.now w.args.n2 w.args.j)) w.args.x.now) ok y
         × (length y ≡ most_cells)
-    told w =
-        stage-weighed s.requires.0 l.before.layout-at.ensures l.layout-at2.ensures weighs s.args.run t s.requires.1
-        s.requires.2 w
+    told v =
+        stage-weighed w.requires.0 w.layout_at-fa.ensures w.layout_at-fb.ensures weighs w.args.run t w.requires.1
+        w.requires.2 v
 
     -- the same of rows that take the rule by its two tests
     told-by : {ok : Bool} {y : List ℤ} →
-        Weighed task (rule_by w.is_down-down.result w.is_even-even.result) s.args.col.now fa s.args.row.now fb
-        s.args.x.now ok y →
-        Step (limit_of s.args.run.task) (s.args.n1 * s.args.n2)
-        (taken_by s.args.run (s.args.n1 * s.args.n2)
-        (joint_stage s.args.n1 s.args.n2 (factor_at s.args.col.now s.args.n1 s.args.i)
-        (factor_at s.args.row.now s.args.n2 s.args.j)) s.args.x.now) ok y
+        Weighed task (rule_by w.is_down-down.result w.is_even-even.result) w.args.col.now w.layout_at-fa.result
+        w.args.row.now w.layout_at-fb.result w.args.x.now ok y →
+        Step (limit_of w.args.run.task) (w.args.n1 * w.args.n2)
+        (taken_by w.args.run (w.args.n1 * w.args.n2)
+        (joint_stage w.args.n1 w.args.n2 (factor_at w.args.col.now w.args.n1 w.args.i)
+        (factor_at w.args.row.now w.args.n2 w.args.j)) w.args.x.now) ok y
         × (length y ≡ most_cells)
     told-by {ok} {y} v =
-        let e = ap₂ rule_by w.is_down-down.ensures w.is_even-even.ensures ∙ by_tests s.args.run.rule in
-        told (subst (λ r. Weighed task r s.args.col.now fa s.args.row.now fb s.args.x.now ok y) e v)
-
+        let e = ap₂ rule_by w.is_down-down.ensures w.is_even-even.ensures ∙ by_tests w.args.run.rule in
+        told
+        (subst (λ r. Weighed task r w.args.col.now w.layout_at-fa.result w.args.row.now w.layout_at-fb.result
+        w.args.x.now ok y) e v)
 
 pub apply_lower_rows-requires : goal.apply_lower_rows-requires
 apply_lower_rows-requires c =
@@ -97,7 +84,7 @@ apply_lower_rows-requires c =
 
 pub returns-in-Lower : goal.returns-in-Lower
 returns-in-Lower c =
-        told-by (goal.at.returns-in-Lower c).After-is_even-even c.in-Forward.is c.apply_lower_rows.ensures
+    told-by (goal.at.returns-in-Lower c).After-is_even-even c.in-Forward.is c.apply_lower_rows.ensures
 
 pub apply_upper_rows-requires : goal.apply_upper_rows-requires
 apply_upper_rows-requires c =
@@ -105,7 +92,7 @@ apply_upper_rows-requires c =
 
 pub returns-in-Upper : goal.returns-in-Upper
 returns-in-Upper c =
-        told-by (goal.at.returns-in-Upper c).After-is_even-even c.in-Forward.is c.apply_upper_rows.ensures
+    told-by (goal.at.returns-in-Upper c).After-is_even-even c.in-Forward.is c.apply_upper_rows.ensures
 
 pub apply_single_rows-requires : goal.apply_single_rows-requires
 apply_single_rows-requires c =
@@ -113,54 +100,44 @@ apply_single_rows-requires c =
 
 pub returns-in-Single : goal.returns-in-Single
 returns-in-Single c =
-        told-by (goal.at.returns-in-Single c).After-is_even-even c.in-Forward.is c.apply_single_rows.ensures
+    told-by (goal.at.returns-in-Single c).After-is_even-even c.in-Forward.is c.apply_single_rows.ensures
 
 pub returns-in-Permutation : goal.returns-in-Permutation
 returns-in-Permutation c =
-        absurd (move-no _ (weighs (goal.at.returns-in-Permutation c).After-is_even-even) c.in-Permutation.is)
+    absurd (move-no _ (weighs (goal.at.returns-in-Permutation c).After-is_even-even) c.in-Permutation.is)
 
 pub undo_lower_rows-requires : goal.undo_lower_rows-requires
 undo_lower_rows-requires c =
-    (
-      asks (goal.at.undo_lower_rows-requires c).After-is_even-even
-          c.in-Inverse.is,
-      c.in-Lower-kind.is,
-    )
+    (asks (goal.at.undo_lower_rows-requires c).After-is_even-even c.in-Inverse.is, c.in-Lower-kind.is)
 
 pub returns-in-Lower-kind : goal.returns-in-Lower-kind
 returns-in-Lower-kind c =
-        told-by (goal.at.returns-in-Lower-kind c).After-is_even-even c.in-Inverse.is c.undo_lower_rows.ensures
+    told-by (goal.at.returns-in-Lower-kind c).After-is_even-even c.in-Inverse.is c.undo_lower_rows.ensures
 
 pub undo_upper_rows-requires : goal.undo_upper_rows-requires
 undo_upper_rows-requires c =
-    (
-      asks (goal.at.undo_upper_rows-requires c).After-is_even-even
-          c.in-Inverse.is,
-      c.in-Upper-kind.is,
-    )
+    (asks (goal.at.undo_upper_rows-requires c).After-is_even-even c.in-Inverse.is, c.in-Upper-kind.is)
 
 pub returns-in-Upper-kind : goal.returns-in-Upper-kind
 returns-in-Upper-kind c =
-        told-by (goal.at.returns-in-Upper-kind c).After-is_even-even c.in-Inverse.is c.undo_upper_rows.ensures
+    told-by (goal.at.returns-in-Upper-kind c).After-is_even-even c.in-Inverse.is c.undo_upper_rows.ensures
 
 pub undo_single_rows-requires : goal.undo_single_rows-requires
 undo_single_rows-requires c =
-    (
-      asks (goal.at.undo_single_rows-requires c).After-is_even-even
-          c.in-Inverse.is,
-      c.in-Single-kind.is,
-    )
+    (asks (goal.at.undo_single_rows-requires c).After-is_even-even c.in-Inverse.is, c.in-Single-kind.is)
 
 pub returns-in-Single-kind : goal.returns-in-Single-kind
 returns-in-Single-kind c =
-        told-by (goal.at.returns-in-Single-kind c).After-is_even-even c.in-Inverse.is c.undo_single_rows.ensures
+    told-by (goal.at.returns-in-Single-kind c).After-is_even-even c.in-Inverse.is c.undo_single_rows.ensures
 
 pub returns-in-Permutation-kind : goal.returns-in-Permutation-kind
 returns-in-Permutation-kind c =
-        absurd (move-no _ (weighs (goal.at.returns-in-Permutation-kind c).After-is_even-even) c.in-Permutation-kind.is)
+    absurd (move-no _ (weighs (goal.at.returns-in-Permutation-kind c).After-is_even-even) c.in-Permutation-kind.is)
 
 pub allow_rows-requires : goal.allow_rows-requires
-allow_rows-requires c =     asks (goal.at.allow_rows-requires c).After-is_even-even c.in-Allowance.is
+allow_rows-requires c =
+    asks (goal.at.allow_rows-requires c).After-is_even-even c.in-Allowance.is
 
 pub returns-in-Allowance : goal.returns-in-Allowance
-returns-in-Allowance c =     told (goal.at.returns-in-Allowance c).After-is_even-even c.in-Allowance.is c.allow_rows.ensures
+returns-in-Allowance c =
+    told (goal.at.returns-in-Allowance c).After-is_even-even c.in-Allowance.is c.allow_rows.ensures
