@@ -33,8 +33,7 @@ with_product-sum-requires c =
 pub loop-k-preserved : goal.loop-k-preserved
 unfolding sum
 loop-k-preserved c =
-    let v = value (goal.at.loop-k-preserved c).After-wide in
-    (
+    let v = value (goal.at.loop-k-preserved c).After-wide in (
       omega arith,
       c.loop-k.invariant.1,
       rw add-one (back w64 _ c.with_product-sum.type_inv ∙ c.with_product-sum.ensures ∙ rw (v, c.loop-k.invariant.2)),

@@ -20,7 +20,7 @@ roundable c =
     rw (sum c) (within-le (omega arith) (sum-small c.requires.0 c.args.e c.requires.1))
 
 pub round_joint-requires : goal.round_joint-requires
-round_joint-requires c =     roundable (goal.at.round_joint-requires c).After-off_sum-s
+round_joint-requires c = roundable (goal.at.round_joint-requires c).After-off_sum-s
 
 pub returns-in-Joint : goal.returns-in-Joint
 unfolding scale_by
@@ -31,7 +31,7 @@ returns-in-Joint c =
     c.round_joint.ensures.0))
 
 pub round_line-requires : goal.round_line-requires
-round_line-requires c =     roundable (goal.at.round_line-requires c).After-off_sum-s
+round_line-requires c = roundable (goal.at.round_line-requires c).After-off_sum-s
 
 pub returns-in-Pass : goal.returns-in-Pass
 unfolding scale_by

@@ -20,4 +20,4 @@ returns-then-not-is_within c =
     (test-no bound (value (goal.at.returns-then-not-is_within c).After-wide) c.is_within.ensures (c.if-not-is_within.true)))
 
 pub returns : goal.returns
-returns c =     let l = c.loop-e in sym (read_none _ _ (λ k b. l.invariant k (omega arith)))
+returns c = let l = c.loop-e in sym (read_none _ _ (λ k b. l.invariant k (omega arith)))

@@ -14,13 +14,13 @@ sign-inside c =
     sign-there c.requires.0 c.layout_at-f.ensures c.args.m c.requires.1
 
 pub overflow_add-signs : goal.overflow_add-signs
-overflow_add-signs c =     let h = sign-inside (goal.at.overflow_add-signs c).Then-m-k in omega arith
+overflow_add-signs c = let h = sign-inside (goal.at.overflow_add-signs c).Then-m-k in omega arith
 
 pub offset_bounds-sheet-signs : goal.offset_bounds-sheet-signs
-offset_bounds-sheet-signs c =     let h = sign-inside (goal.at.offset_bounds-sheet-signs c).Then-m-k in omega arith
+offset_bounds-sheet-signs c = let h = sign-inside (goal.at.offset_bounds-sheet-signs c).Then-m-k in omega arith
 
 pub bounds-sheet-signs : goal.bounds-sheet-signs
-bounds-sheet-signs c =     sign-inside (goal.at.bounds-sheet-signs c).Then-m-k
+bounds-sheet-signs c = sign-inside (goal.at.bounds-sheet-signs c).Then-m-k
 
 diagonal : (c : After-wide) →
     pos unit *ℤ to_z w64 (of_z w64 c.wide.result) ≡ matrix (factor_at c.args.sheet.now c.args.n c.args.i)
@@ -32,7 +32,7 @@ diagonal c =
 
 pub returns-then-m-k : goal.returns-then-m-k
 returns-then-m-k c =
-        back w64 _ c.product.type_inv ∙ c.product.ensures ∙ diagonal (goal.at.returns-then-m-k c).After-wide
+    back w64 _ c.product.type_inv ∙ c.product.ensures ∙ diagonal (goal.at.returns-then-m-k c).After-wide
 
 pub returns-then-not-has_entry : goal.returns-then-not-has_entry
 returns-then-not-has_entry c =
@@ -53,14 +53,14 @@ entry-inside c =
     (has c.before))
 
 pub overflow_add-entries : goal.overflow_add-entries
-overflow_add-entries c =     let h = entry-inside (goal.at.overflow_add-entries c).After-entries_before in omega arith
+overflow_add-entries c = let h = entry-inside (goal.at.overflow_add-entries c).After-entries_before in omega arith
 
 pub offset_bounds-sheet-entries : goal.offset_bounds-sheet-entries
 offset_bounds-sheet-entries c =
-        let h = entry-inside (goal.at.offset_bounds-sheet-entries c).After-entries_before in omega arith
+    let h = entry-inside (goal.at.offset_bounds-sheet-entries c).After-entries_before in omega arith
 
 pub bounds-sheet-entries : goal.bounds-sheet-entries
-bounds-sheet-entries c =     entry-inside (goal.at.bounds-sheet-entries c).After-entries_before
+bounds-sheet-entries c = entry-inside (goal.at.bounds-sheet-entries c).After-entries_before
 
 pub returns : goal.returns
 returns c =

@@ -17,13 +17,13 @@ before c =
     let k : c.args.q.n1 + 4 ≤ most_order + 4 = omega arith in mul-le-mul l k
 
 pub overflow_mul-result : goal.overflow_mul-result
-overflow_mul-result c =     let h = before (goal.at.overflow_mul-result c).After-line_of in omega arith
+overflow_mul-result c = let h = before (goal.at.overflow_mul-result c).After-line_of in omega arith
 
 spot : (c : After-spot_of) → let q = c.args.q in c.spot_of.result < q.n1
 spot c = rw c.spot_of.ensures (spot-below c.args.q c.args.e c.requires.4)
 
 pub line_turn-requires : goal.line_turn-requires
-line_turn-requires c =     (c.requires.1, spot (goal.at.line_turn-requires c).After-spot_of)
+line_turn-requires c = (c.requires.1, spot (goal.at.line_turn-requires c).After-spot_of)
 
 pub overflow_add-result-2 : goal.overflow_add-result-2
 overflow_add-result-2 c =

@@ -9,13 +9,13 @@ there : (c : After-layout_at-f) → c.layout_at-f.result.signs + c.args.m < leng
 there c = sign-there c.requires.0 c.layout_at-f.ensures c.args.m c.requires.1
 
 pub overflow_add-result : goal.overflow_add-result
-overflow_add-result c =     let h = there (goal.at.overflow_add-result c).After-layout_at-f in omega arith
+overflow_add-result c = let h = there (goal.at.overflow_add-result c).After-layout_at-f in omega arith
 
 pub offset_bounds-sheet-signs : goal.offset_bounds-sheet-signs
-offset_bounds-sheet-signs c =     let h = there (goal.at.offset_bounds-sheet-signs c).After-layout_at-f in omega arith
+offset_bounds-sheet-signs c = let h = there (goal.at.offset_bounds-sheet-signs c).After-layout_at-f in omega arith
 
 pub bounds-sheet-signs : goal.bounds-sheet-signs
-bounds-sheet-signs c =     there (goal.at.bounds-sheet-signs c).After-layout_at-f
+bounds-sheet-signs c = there (goal.at.bounds-sheet-signs c).After-layout_at-f
 
 pub returns : goal.returns
 returns c =
