@@ -1,7 +1,7 @@
 -- The sum so far is that of the first j magnitudes (`magnitudes_to`), and small; all of them are the row's (`along-columns`).
 use Rattle.std.proofs.Common.{◌≡◌, ◌∙◌, ◌+◌, ◌<◌, arith, w32, to_z, of_z}
 use Rattle.factor.specs.Magnitudes.{magnitude_at}
-use Rattle.linerun.specs.RowColumns.{column_of, along-columns, column-below, magnitude-within, magnitudes-within}
+use Rattle.linerun.specs.RowColumns.{along-columns, column-below, magnitude-within, magnitudes-within}
 use Rattle.rules.specs.Numbers.{most_order}
 use Rattle.whole.specs.Machine.{fits, reads, back, within-+, within-*}
 use Rattle.linerun.proofs.steps.magnitude_sum_at.Goals as goal
