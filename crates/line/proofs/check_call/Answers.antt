@@ -22,8 +22,10 @@ sheets c = c.check_starts-c.ensures.0
 
 pub returns-then-c-ne0 : goal.returns-then-c-ne0
 returns-then-c-ne0 c =
+    let here = goal.at.returns-then-c-ne0 c in
     let a = c.args in (
-      sheets-stop a.rule a.task (line a.s.now) _ _ c.check_rule-a.ensures c.if-a-ne0.false (sheets (goal.at.returns-then-c-ne0 c).After-check_starts-c) c.if-c-ne0.true,
+      sheets-stop a.rule a.task (line a.s.now) _ _ c.check_rule-a.ensures c.if-a-ne0.false (sheets here.After-check_starts-c)
+          c.if-c-ne0.true,
       λ z. absurd (c.if-c-ne0.true z),
     )
 
@@ -31,7 +33,7 @@ fine : (c : Else-c-ne0) → Accepted c.args.s.now
 fine c = accepted-read _ (ap (λ (a : Answer). a.number) (sym c.check_starts-c.ensures.0) ∙ c.if-c-ne0.false)
 
 pub count_at-requires : goal.count_at-requires
-count_at-requires c =     order-counts (fine (goal.at.count_at-requires c).Else-c-ne0)
+count_at-requires c = order-counts (fine (goal.at.count_at-requires c).Else-c-ne0)
 
 -- what the lengths told, of the plan's size
 told : (c : After-check_lengths) →
@@ -42,8 +44,9 @@ told c = c.check_lengths.ensures ∙ rw c.count_at.ensures
 
 pub returns : goal.returns
 returns c =
+    let here = goal.at.returns c in
     let a = c.args in (
-      lengths-left a.rule a.task (line a.s.now) _ _ c.check_rule-a.ensures c.if-a-ne0.false (sheets (goal.at.returns c).After-check_starts-c) c.if-c-ne0.false
-          (told (goal.at.returns c).After-check_lengths),
+      lengths-left a.rule a.task (line a.s.now) _ _ c.check_rule-a.ensures c.if-a-ne0.false (sheets here.After-check_starts-c)
+          c.if-c-ne0.false (told here.After-check_lengths),
       λ z. c.check_starts-c.ensures.1 c.if-c-ne0.false,
     )

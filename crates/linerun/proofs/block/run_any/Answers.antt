@@ -21,16 +21,15 @@ few s =
     omega (arith, s.requires.2, inputs-most s.args.run.task (count s.args.s.now 0))
 
 pub load-requires : goal.load-requires
-load-requires c =     few (goal.at.load-requires c).Start
+load-requires c = few (goal.at.load-requires c).Start
 
 pub run_stages-r-requires : goal.run_stages-r-requires
-run_stages-r-requires c =
-    (
-      c.requires.0,
-      c.requires.1,
-      rw c.load.ensures (start-bounded 16 c.args.run.task c.args.x.now
-          (sym c.is_inside.ensures ∙ c.if-not-is_inside.false)),
-    )
+run_stages-r-requires c = (
+  c.requires.0,
+  c.requires.1,
+  rw c.load.ensures (start-bounded 16 c.args.run.task c.args.x.now
+      (sym c.is_inside.ensures ∙ c.if-not-is_inside.false)),
+)
 
 pub returns-then-not-r : goal.returns-then-not-r
 returns-then-not-r c =

@@ -4,4 +4,4 @@ use Rattle.linerun.specs.Fours.{fill-four}
 use Rattle.linerun.proofs.fours.load_four.Goals as goal
 
 pub returns : goal.returns
-returns c =     c.copy_front.ensures ∙ fill-four _ _ c.requires refl
+returns c = c.copy_front.ensures ∙ fill-four _ _ c.requires refl

@@ -9,7 +9,7 @@ use Rattle.linerun.proofs.fours.run_four.Goals.{Else-not-is_four}
 
 -- The tests in turn, then the run of the block (`ran-is`).
 pub count_at-requires : goal.count_at-requires
-count_at-requires c =     order-counts c.requires.0
+count_at-requires c = order-counts c.requires.0
 
 -- four numbers, and no allowances
 four : (c : Else-not-is_four) →
@@ -19,7 +19,9 @@ four c =
 
 pub load_four-v-requires : goal.load_four-v-requires
 load_four-v-requires c =
-    c.requires.2 ∙ inputs_are c.args.run.task (count c.args.sheet.now 0) (four (goal.at.load_four-v-requires c).Else-not-is_four).1 ∙ (four (goal.at.load_four-v-requires c).Else-not-is_four).0
+    let here = goal.at.load_four-v-requires c in
+    let f = four here.Else-not-is_four in
+    c.requires.2 ∙ inputs_are c.args.run.task (count c.args.sheet.now 0) f.1 ∙ f.0
 
 pub run_stages_of_four-requires : goal.run_stages_of_four-requires
 run_stages_of_four-requires c =

@@ -19,7 +19,7 @@ use Rattle.linerun.proofs.fours.run_stages_of_four.Goals as goal
 use Rattle.linerun.proofs.fours.run_stages_of_four.Goals.{After-is_down-down, After-run_stage-r, In-loop-t}
 
 pub count_at-many-requires : goal.count_at-many-requires
-count_at-many-requires c =     count-counts c.requires.0
+count_at-many-requires c = count-counts c.requires.0
 
 -- the run as the loop has it
 abbrev G : After-is_down-down → Run
@@ -46,9 +46,10 @@ T c =
 
 pub run_stage-r-requires : goal.run_stage-r-requires
 run_stage-r-requires c =
+    let here = goal.at.run_stage-r-requires c in
     let n = c.args.sheet.now in (
-      rw c.nth_start-i.ensures (subst (λ (k : ℕ). FactorRead n k (start n (T (goal.at.run_stage-r-requires c).In-loop-t))) c.requires.2
-          (c.requires.0.each (T (goal.at.run_stage-r-requires c).In-loop-t) (stage-below c.args.run.task _ _ (in-turn (goal.at.run_stage-r-requires c).In-loop-t)))),
+      rw c.nth_start-i.ensures (subst (λ (k : ℕ). FactorRead n k (start n (T here.In-loop-t))) c.requires.2
+          (c.requires.0.each (T here.In-loop-t) (stage-below c.args.run.task _ _ (in-turn here.In-loop-t)))),
       rw (limit_is c.args.run.task c.requires.3) at c.loop-t.invariant.2.small,
     )
 
@@ -58,27 +59,34 @@ told :
     let s = c.args.sheet.now in
     let t = nth_stage c.args.run.task (count s 1) c.loop-t.t in
     Became c.run_stage-r.result
-    (stage_on (is_inverse c.args.run.task) (rule_by c.is_down-down.result false) (count s 0) (at_stage s (count s 0) t) c.loop-t.v)
+    (stage_on (is_inverse c.args.run.task) (rule_by c.is_down-down.result false) (count s 0) (at_stage s (count s 0) t)
+    c.loop-t.v)
 told c =
     let s = c.args.sheet.now in
     let t = nth_stage c.args.run.task (count s 1) c.loop-t.t in
-    subst (λ (k : ℕ). Became c.run_stage-r.result (stage_on (is_inverse c.args.run.task) (rule_by c.is_down-down.result false) k
-    (line_stage k (factor_at s k (start s t))) c.loop-t.v)) (sym c.requires.2)
+    subst (λ (k : ℕ). Became c.run_stage-r.result
+    (stage_on (is_inverse c.args.run.task) (rule_by c.is_down-down.result false) k (line_stage k (factor_at s k (start s t)))
+    c.loop-t.v)) (sym c.requires.2)
     (rw (c.nth_start-i.ensures, c.is_inverse-back.ensures) at c.run_stage-r.ensures)
 
 pub loop-t-preserved : goal.loop-t-preserved
 loop-t-preserved c =
+    let here = goal.at.loop-t-preserved c in
     let n = c.args.sheet.now in (
       omega arith,
       c.loop-t.invariant.1,
-      stage-passes (line-listed n (G (goal.at.loop-t-preserved c).After-is_down-down).task) c.loop-t.t (in-turn (goal.at.loop-t-preserved c).In-loop-t) c.loop-t.invariant.2
-          (stage-steps (G (goal.at.loop-t-preserved c).After-is_down-down).task (G (goal.at.loop-t-preserved c).After-is_down-down).rule (count n 0) (at_stage n (count n 0) (T (goal.at.loop-t-preserved c).In-loop-t)) c.loop-t.v c.requires.3 (told (goal.at.loop-t-preserved c).After-run_stage-r)
+      stage-passes (line-listed n (G here.After-is_down-down).task) c.loop-t.t (in-turn here.In-loop-t) c.loop-t.invariant.2
+          (stage-steps (G here.After-is_down-down).task (G here.After-is_down-down).rule (count n 0)
+          (at_stage n (count n 0) (T here.In-loop-t))
+          c.loop-t.v c.requires.3 (told here.After-run_stage-r)
           (not-false _ c.if-not-r.false))
           refl,
     )
 
 pub returns : goal.returns
 returns c =
+    let here = goal.at.returns c in
     let l = c.loop-t in
     let e : l.t ≡ count c.args.sheet.now 1 = omega (arith, l.invariant.1) in
-    λ z. rw (by_first (goal.at.returns c).After-is_down-down) at (stages-done (line-listed c.args.sheet.now (G (goal.at.returns c).After-is_down-down).task) (rw e at l.invariant.2))
+    λ z. rw (by_first here.After-is_down-down) at
+    (stages-done (line-listed c.args.sheet.now (G here.After-is_down-down).task) (rw e at l.invariant.2))

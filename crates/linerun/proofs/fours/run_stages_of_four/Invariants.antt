@@ -7,7 +7,9 @@ use Rattle.rules.specs.Numbers.{count}
 use Rattle.linerun.proofs.fours.run_stages_of_four.Given as goal
 
 abbrev pub invariant-loop-t : goal.invariant-loop-t
-invariant-loop-t l = (l.t ≤ l.many) × (l.many ≡ count l.sheet 1) × RunAt (record { task = l.task; rule = rule_by l.down false }) l.sheet l.initial.v l.t l.v
+invariant-loop-t l =
+    (l.t ≤ l.many) × (l.many ≡ count l.sheet 1)
+    × RunAt (record { task = l.task; rule = rule_by l.down false }) l.sheet l.initial.v l.t l.v
 
 abbrev pub decreases-loop-t : goal.decreases-loop-t
 decreases-loop-t l = l.many - l.t

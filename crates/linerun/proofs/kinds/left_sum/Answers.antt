@@ -47,4 +47,4 @@ round_line-requires c =
 pub returns : goal.returns
 unfolding rounded_sum
 returns c =
-        back w64 _ c.round_line.type_inv ∙ c.round_line.ensures.0 ∙ rw (value (goal.at.returns c).After-products_sum)
+    back w64 _ c.round_line.type_inv ∙ c.round_line.ensures.0 ∙ rw (value (goal.at.returns c).After-products_sum)

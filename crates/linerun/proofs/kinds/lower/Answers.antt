@@ -33,7 +33,11 @@ turn c = let l = c.loop-m-test.true in omega (arith, c.loop-m.invariant.1)
 
 pub left_sum-q-requires : goal.left_sum-q-requires
 left_sum-q-requires c =
-    ((c.requires.0, (turn (goal.at.left_sum-q-requires c).In-loop-m), c.requires.2), c.requires.1, c.loop-m.invariant.2 ∙ sym (lower-at c.args.f c.loop-m.m c.requires.1))
+    let here = goal.at.left_sum-q-requires c in (
+      (c.requires.0, (turn here.In-loop-m), c.requires.2),
+      c.requires.1,
+      c.loop-m.invariant.2 ∙ sym (lower-at c.args.f c.loop-m.m c.requires.1),
+    )
 
 -- the rounded sum, as it was read
 sum :
@@ -44,9 +48,10 @@ sum c = back w64 _ c.left_sum-q.type_inv ∙ c.left_sum-q.ensures
 
 pub apply_at-requires : goal.apply_at-requires
 apply_at-requires c =
-    (
-      (c.requires.0, turn (goal.at.apply_at-requires c).In-loop-m, c.requires.2),
-      rw (sum (goal.at.apply_at-requires c).After-left_sum-q) (rounded-sum-small c.requires.0 c.loop-m.m (turn (goal.at.apply_at-requires c).In-loop-m) (K (goal.at.apply_at-requires c).Start) c.requires.2),
+    let here = goal.at.apply_at-requires c in (
+      (c.requires.0, turn here.In-loop-m, c.requires.2),
+      rw (sum here.After-left_sum-q)
+          (rounded-sum-small c.requires.0 c.loop-m.m (turn here.In-loop-m) (K here.Start) c.requires.2),
     )
 
 -- what the element becomes
@@ -60,7 +65,8 @@ value c = rw (back w64 _ c.left_sum-q.type_inv ∙ c.left_sum-q.ensures)
 
 pub returns-then-not-apply_at : goal.returns-then-not-apply_at
 returns-then-not-apply_at c =
-    filled-refused (fills (goal.at.returns-then-not-apply_at c).Start) (turn (goal.at.returns-then-not-apply_at c).In-loop-m) (value (goal.at.returns-then-not-apply_at c).After-apply_at) c.apply_at.ensures
+    let here = goal.at.returns-then-not-apply_at c in
+    filled-refused (fills here.Start) (turn here.In-loop-m) (value here.After-apply_at) c.apply_at.ensures
     (c.if-not-apply_at.true)
 
 pub overflow_add-p : goal.overflow_add-p
@@ -79,11 +85,11 @@ overflow_add-p c =
 pub loop-m-preserved : goal.loop-m-preserved
 unfolding triangle
 loop-m-preserved c =
-    (
+    let here = goal.at.loop-m-preserved c in (
       omega arith,
       c.loop-m.invariant.1,
       let e : triangle (c.loop-m.m + 1) ≡ triangle c.loop-m.m + c.loop-m.m = rw add-one in omega (arith, c.loop-m.invariant.2),
-      filled_next (fills (goal.at.loop-m-preserved c).Start) (turn (goal.at.loop-m-preserved c).In-loop-m) (value (goal.at.loop-m-preserved c).After-apply_at) c.apply_at.ensures c.loop-m.invariant.3
+      filled_next (fills here.Start) (turn here.In-loop-m) (value here.After-apply_at) c.apply_at.ensures c.loop-m.invariant.3
           (c.if-not-apply_at.false),
     )
 

@@ -8,7 +8,9 @@ use Rattle.rules.specs.Stages.{fill}
 use Rattle.linerun.proofs.kinds.lower.Given as goal
 
 abbrev pub invariant-loop-m : goal.invariant-loop-m
-invariant-loop-m l = (l.m ≤ l.n) × (l.n ≡ l.f.order) × (l.p ≡ l.f.entries + triangle l.m) × Filled (λ k. fill k (applied_at (rule_by l.down l.even) l.sheet l.f l.x) l.x) l.m l.y
+invariant-loop-m l =
+    (l.m ≤ l.n) × (l.n ≡ l.f.order) × (l.p ≡ l.f.entries + triangle l.m)
+    × Filled (λ k. fill k (applied_at (rule_by l.down l.even) l.sheet l.f l.x) l.x) l.m l.y
 
 abbrev pub decreases-loop-m : goal.decreases-loop-m
 decreases-loop-m l = l.n - l.m

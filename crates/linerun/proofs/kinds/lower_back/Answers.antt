@@ -39,13 +39,12 @@ turn : (c : In-loop-t) → c.loop-t.t < c.args.f.order
 turn c = let l = c.loop-t-test.true in omega (arith, c.loop-t.invariant.1)
 
 pub left_sum-q-requires : goal.left_sum-q-requires
-left_sum-q-requires c =
-    (
-      (c.requires.0, (turn (goal.at.left_sum-q-requires c).In-loop-t), c.loop-t.invariant.3.small),
-      c.requires.1,
-      c.loop-t.invariant.2 ∙ sym
-          (lower-at c.args.f c.loop-t.t c.requires.1),
-    )
+left_sum-q-requires c = (
+  (c.requires.0, (turn (goal.at.left_sum-q-requires c).In-loop-t), c.loop-t.invariant.3.small),
+  c.requires.1,
+  c.loop-t.invariant.2 ∙ sym
+      (lower-at c.args.f c.loop-t.t c.requires.1),
+)
 
 -- the rounded sum, as it was read
 sum :
@@ -56,9 +55,10 @@ sum c = back w64 _ c.left_sum-q.type_inv ∙ c.left_sum-q.ensures
 
 pub undo_at-requires : goal.undo_at-requires
 undo_at-requires c =
-    (
-      (c.requires.0, turn (goal.at.undo_at-requires c).In-loop-t, c.loop-t.invariant.3.small),
-      rw (sum (goal.at.undo_at-requires c).After-left_sum-q) (rounded-sum-small c.requires.0 c.loop-t.t (turn (goal.at.undo_at-requires c).In-loop-t) (K (goal.at.undo_at-requires c).Start) c.loop-t.invariant.3.small),
+    let here = goal.at.undo_at-requires c in (
+      (c.requires.0, turn here.In-loop-t, c.loop-t.invariant.3.small),
+      rw (sum here.After-left_sum-q)
+          (rounded-sum-small c.requires.0 c.loop-t.t (turn here.In-loop-t) (K here.Start) c.loop-t.invariant.3.small),
     )
 
 -- what the element was
@@ -74,7 +74,8 @@ value c = rw (back w64 _ c.left_sum-q.type_inv ∙ c.left_sum-q.ensures, c.loop-
 
 pub returns-then-not-undo_at : goal.returns-then-not-undo_at
 returns-then-not-undo_at c =
-    filled-refused (fills (goal.at.returns-then-not-undo_at c).Start) (turn (goal.at.returns-then-not-undo_at c).In-loop-t) (value (goal.at.returns-then-not-undo_at c).After-undo_at) c.undo_at.ensures (c.if-not-undo_at.true)
+    let here = goal.at.returns-then-not-undo_at c in
+    filled-refused (fills here.Start) (turn here.In-loop-t) (value here.After-undo_at) c.undo_at.ensures (c.if-not-undo_at.true)
 
 pub overflow_add-p : goal.overflow_add-p
 overflow_add-p c =
@@ -92,11 +93,11 @@ overflow_add-p c =
 pub loop-t-preserved : goal.loop-t-preserved
 unfolding triangle
 loop-t-preserved c =
-    (
+    let here = goal.at.loop-t-preserved c in (
       omega arith,
       c.loop-t.invariant.1,
       let e : triangle (c.loop-t.t + 1) ≡ triangle c.loop-t.t + c.loop-t.t = rw add-one in omega (arith, c.loop-t.invariant.2),
-      filled_next (fills (goal.at.loop-t-preserved c).Start) (turn (goal.at.loop-t-preserved c).In-loop-t) (value (goal.at.loop-t-preserved c).After-undo_at) c.undo_at.ensures c.loop-t.invariant.3
+      filled_next (fills here.Start) (turn here.In-loop-t) (value here.After-undo_at) c.undo_at.ensures c.loop-t.invariant.3
           (c.if-not-undo_at.false),
     )
 

@@ -7,7 +7,9 @@ use Rattle.rules.specs.Sheets.{triangle}
 use Rattle.linerun.proofs.kinds.lower_back.Given as goal
 
 abbrev pub invariant-loop-t : goal.invariant-loop-t
-invariant-loop-t l = (l.t ≤ l.n) × (l.n ≡ l.f.order) × (l.p ≡ l.f.entries + triangle l.t) × Filled (λ k. undone_in_place (rule_by l.down l.even) l.sheet l.f k l.initial.x) l.t l.x
+invariant-loop-t l =
+    (l.t ≤ l.n) × (l.n ≡ l.f.order) × (l.p ≡ l.f.entries + triangle l.t)
+    × Filled (λ k. undone_in_place (rule_by l.down l.even) l.sheet l.f k l.initial.x) l.t l.x
 
 abbrev pub decreases-loop-t : goal.decreases-loop-t
 decreases-loop-t l = l.n - l.t

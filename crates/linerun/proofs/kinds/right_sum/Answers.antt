@@ -22,12 +22,13 @@ many f m k = let e : f.order - 1 - m ≡ f.order - suc m = omega arith in e ∙ 
 
 pub products_sum_from-requires : goal.products_sum_from-requires
 products_sum_from-requires c =
+    let here = goal.at.products_sum_from-requires c in
     let w : length c.args.x.now ≡ 16 = search rules in
     let l = c.requires.0.1 in
     let o = c.requires.0.0.order in
     let e = upper-left c.args.f c.args.m c.requires.1 in
     rw (part-is c.args.p c.args.sheet.now, c.requires.2, many c.args.f c.args.m c.requires.1)
-    (omega arith, rw (e, add-zero) at (right-terms (row-of-16 c.requires.0.0 c.args.m l) (bounded (goal.at.products_sum_from-requires c).Start) w))
+    (omega arith, rw (e, add-zero) at (right-terms (row-of-16 c.requires.0.0 c.args.m l) (bounded here.Start) w))
 
 value :
     (c : After-products_sum_from) →
@@ -54,4 +55,4 @@ round_line-requires c =
 pub returns : goal.returns
 unfolding rounded_sum
 returns c =
-        back w64 _ c.round_line.type_inv ∙ c.round_line.ensures.0 ∙ rw (value (goal.at.returns c).After-products_sum_from)
+    back w64 _ c.round_line.type_inv ∙ c.round_line.ensures.0 ∙ rw (value (goal.at.returns c).After-products_sum_from)

@@ -38,9 +38,10 @@ sum c = back w64 _ c.single_sum-q.type_inv ∙ c.single_sum-q.ensures
 
 pub apply_at-requires : goal.apply_at-requires
 apply_at-requires c =
-    (
-      (c.requires.0, turn (goal.at.apply_at-requires c).In-loop-m, c.requires.2),
-      rw (sum (goal.at.apply_at-requires c).After-single_sum-q) (rounded-sum-small c.requires.0 c.loop-m.m (turn (goal.at.apply_at-requires c).In-loop-m) (K (goal.at.apply_at-requires c).Start) c.requires.2),
+    let here = goal.at.apply_at-requires c in (
+      (c.requires.0, turn here.In-loop-m, c.requires.2),
+      rw (sum here.After-single_sum-q)
+          (rounded-sum-small c.requires.0 c.loop-m.m (turn here.In-loop-m) (K here.Start) c.requires.2),
     )
 
 -- what the element becomes
@@ -54,16 +55,17 @@ value c = rw (back w64 _ c.single_sum-q.type_inv ∙ c.single_sum-q.ensures)
 
 pub returns-then-not-apply_at : goal.returns-then-not-apply_at
 returns-then-not-apply_at c =
-    filled-refused (fills (goal.at.returns-then-not-apply_at c).Start) (turn (goal.at.returns-then-not-apply_at c).In-loop-m) (value (goal.at.returns-then-not-apply_at c).After-apply_at) c.apply_at.ensures
+    let here = goal.at.returns-then-not-apply_at c in
+    filled-refused (fills here.Start) (turn here.In-loop-m) (value here.After-apply_at) c.apply_at.ensures
     (c.if-not-apply_at.true)
 
 pub loop-m-preserved : goal.loop-m-preserved
 unfolding fill
 loop-m-preserved c =
-    (
+    let here = goal.at.loop-m-preserved c in (
       omega arith,
       c.loop-m.invariant.1,
-      filled_next (fills (goal.at.loop-m-preserved c).Start) (turn (goal.at.loop-m-preserved c).In-loop-m) (value (goal.at.loop-m-preserved c).After-apply_at) c.apply_at.ensures c.loop-m.invariant.2
+      filled_next (fills here.Start) (turn here.In-loop-m) (value here.After-apply_at) c.apply_at.ensures c.loop-m.invariant.2
           (c.if-not-apply_at.false),
     )
 

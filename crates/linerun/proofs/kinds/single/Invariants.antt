@@ -7,7 +7,9 @@ use Rattle.rules.specs.Stages.{fill}
 use Rattle.linerun.proofs.kinds.single.Given as goal
 
 abbrev pub invariant-loop-m : goal.invariant-loop-m
-invariant-loop-m l = (l.m ≤ l.n) × (l.n ≡ l.f.order) × Filled (λ k. fill k (applied_at (rule_by l.down l.even) l.sheet l.f l.x) l.x) l.m l.y
+invariant-loop-m l =
+    (l.m ≤ l.n) × (l.n ≡ l.f.order)
+    × Filled (λ k. fill k (applied_at (rule_by l.down l.even) l.sheet l.f l.x) l.x) l.m l.y
 
 abbrev pub decreases-loop-m : goal.decreases-loop-m
 decreases-loop-m l = l.n - l.m

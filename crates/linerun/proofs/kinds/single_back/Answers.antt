@@ -50,11 +50,12 @@ sum c = back w64 _ c.single_sum-q.type_inv ∙ c.single_sum-q.ensures
 
 pub undo_at-requires : goal.undo_at-requires
 undo_at-requires c =
-    let s = (goal.at.undo_at-requires c).Start in
-    let l = small-place s c.loop-t.t c.nth_undone-m.result (turn (goal.at.undo_at-requires c).In-loop-t) c.nth_undone-m.ensures in (
+    let here = goal.at.undo_at-requires c in
+    let s = here.Start in
+    let l = small-place s c.loop-t.t c.nth_undone-m.result (turn here.In-loop-t) c.nth_undone-m.ensures in (
       (c.requires.0, l, c.loop-t.invariant.2.small),
-      rw (sum (goal.at.undo_at-requires c).After-single_sum-q)
-      (rounded-sum-small c.requires.0 c.nth_undone-m.result l (K s) c.loop-t.invariant.2.small),
+      rw (sum here.After-single_sum-q)
+          (rounded-sum-small c.requires.0 c.nth_undone-m.result l (K s) c.loop-t.invariant.2.small),
     )
 
 -- what the element was
@@ -74,17 +75,18 @@ value c = rw (
 
 pub returns-then-not-undo_at : goal.returns-then-not-undo_at
 returns-then-not-undo_at c =
-    filled-refused (fills (goal.at.returns-then-not-undo_at c).Start) (turn (goal.at.returns-then-not-undo_at c).In-loop-t) (value (goal.at.returns-then-not-undo_at c).After-undo_at)
+    let here = goal.at.returns-then-not-undo_at c in
+    filled-refused (fills here.Start) (turn here.In-loop-t) (value here.After-undo_at)
     (rw c.nth_undone-m.ensures at c.undo_at.ensures)
     (c.if-not-undo_at.true)
 
 pub loop-t-preserved : goal.loop-t-preserved
 unfolding in_place
 loop-t-preserved c =
-    (
+    let here = goal.at.loop-t-preserved c in (
       omega arith,
       c.loop-t.invariant.1,
-      filled_next (fills (goal.at.loop-t-preserved c).Start) (turn (goal.at.loop-t-preserved c).In-loop-t) (value (goal.at.loop-t-preserved c).After-undo_at)
+      filled_next (fills here.Start) (turn here.In-loop-t) (value here.After-undo_at)
           (rw c.nth_undone-m.ensures at c.undo_at.ensures) c.loop-t.invariant.2
           (c.if-not-undo_at.false),
     )

@@ -36,4 +36,5 @@ small c = let h = c.requires.0 in row_small h.0 c.args.m
 
 pub round_line-requires : goal.round_line-requires
 round_line-requires c =
-    rw (value (goal.at.round_line-requires c).After-row_sum) (within-le (omega arith) (small (goal.at.round_line-requires c).After-row_sum))
+    let here = goal.at.round_line-requires c in
+    rw (value here.After-row_sum) (within-le (omega arith) (small here.After-row_sum))

@@ -1,5 +1,6 @@
 -- The block is as t turns leave it, and in bound (`Filled`); p is where the next row starts.
-use Rattle.std.proofs.Common.{rules, List, ◌≡◌, refl, ◌∙◌, ℕ, suc, ◌+◌, ◌-◌, ◌≤◌, ◌<◌, arith, ℤ, ◌-ℤ◌, ◌*ℤ◌, length, w64, to_z, of_z}
+use Rattle.std.proofs.Common.{rules, List, ◌≡◌, refl, ◌∙◌, ℕ, suc, ◌+◌, ◌-◌, ◌≤◌, ◌<◌}
+use Rattle.std.proofs.Common.{arith, ℤ, ◌-ℤ◌, ◌*ℤ◌, length, w64, to_z, of_z}
 use Rattle.factor.specs.InPlace.{in_place}
 use Rattle.factor.specs.Rounding.{rule_by}
 use Rattle.factor.specs.UndoingOrder.{nth_undone}
@@ -13,7 +14,7 @@ use Rattle.rules.specs.Sheets.{triangle}
 use Rattle.rules.specs.declared.Rule.{Rule}
 use Rattle.whole.specs.Machine.{back}
 use Rattle.linerun.proofs.kinds.upper_back.Goals as goal
-use Rattle.linerun.proofs.kinds.upper_back.Goals.{After-right_sum-q, After-undo_at, At-loop-t, In-loop-t, Start}
+use Rattle.linerun.proofs.kinds.upper_back.Goals.{After-right_sum-q, After-undo_at, In-loop-t, Start}
 
 -- the rule of the two tests
 abbrev K : Start → Rule
@@ -45,19 +46,18 @@ last s =
     omega (arith, above-all n, above-last n (omega arith), upper-at s.args.f (n - 1) s.requires.1)
 
 pub overflow_add-p : goal.overflow_add-p
-overflow_add-p c =     let h = last (goal.at.overflow_add-p c).Start in omega (arith, c.before_lower.ensures)
+overflow_add-p c = let h = last (goal.at.overflow_add-p c).Start in omega (arith, c.before_lower.ensures)
 
 pub loop-t-init : goal.loop-t-init
 unfolding in_place
-loop-t-init c =
-        (
+loop-t-init c = (
   omega arith,
   refl,
   let e = c.before_lower.ensures in let z : c.args.f.order - 0 ≡
       c.args.f.order = omega arith in rw z (omega (arith, above-all c.args.f.order)),
   record
       { is = refl; small = c.requires.3 },
-    )
+)
 
 -- the turn is one of the order's
 turn : (c : In-loop-t) → c.loop-t.t < c.args.f.order
@@ -77,16 +77,15 @@ place c =
     c.loop-t.invariant.2 ∙ rw (e, d) (omega arith)
 
 pub right_sum-q-requires : goal.right_sum-q-requires
-right_sum-q-requires c =
-    (
-      (c.requires.0, (let l = turn (goal.at.right_sum-q-requires c).In-loop-t in omega arith), c.loop-t.invariant.3.small),
-      c.requires.1,
-      (let e = place (goal.at.right_sum-q-requires c).In-loop-t in omega (
-        arith,
-        upper-at c.args.f (c.args.f.order - 1 - c.loop-t.t)
-            c.requires.1,
-      )),
-    )
+right_sum-q-requires c = (
+  (c.requires.0, (let l = turn (goal.at.right_sum-q-requires c).In-loop-t in omega arith), c.loop-t.invariant.3.small),
+  c.requires.1,
+  (let e = place (goal.at.right_sum-q-requires c).In-loop-t in omega (
+    arith,
+    upper-at c.args.f (c.args.f.order - 1 - c.loop-t.t)
+        c.requires.1,
+  )),
+)
 
 -- the rounded sum, as it was read
 sum :
@@ -97,10 +96,11 @@ sum c = back w64 _ c.right_sum-q.type_inv ∙ c.right_sum-q.ensures
 
 pub undo_at-requires : goal.undo_at-requires
 undo_at-requires c =
-    (
-      (c.requires.0, (let t = turn (goal.at.undo_at-requires c).In-loop-t in omega arith), c.loop-t.invariant.3.small),
-      rw (sum (goal.at.undo_at-requires c).After-right_sum-q) (rounded-sum-small c.requires.0 (c.args.f.order - 1 - c.loop-t.t) (let t = turn (goal.at.undo_at-requires c).In-loop-t in omega arith)
-          (K (goal.at.undo_at-requires c).Start) c.loop-t.invariant.3.small),
+    let here = goal.at.undo_at-requires c in (
+      (c.requires.0, (let t = turn here.In-loop-t in omega arith), c.loop-t.invariant.3.small),
+      rw (sum here.After-right_sum-q)
+          (rounded-sum-small c.requires.0 (c.args.f.order - 1 - c.loop-t.t) (let t = turn here.In-loop-t in omega arith)
+          (K here.Start) c.loop-t.invariant.3.small),
     )
 
 -- what the element was
@@ -116,18 +116,20 @@ value c = rw (back w64 _ c.right_sum-q.type_inv ∙ c.right_sum-q.ensures, c.loo
 
 pub returns-then-not-undo_at : goal.returns-then-not-undo_at
 returns-then-not-undo_at c =
-    filled-refused (fills (goal.at.returns-then-not-undo_at c).Start) (turn (goal.at.returns-then-not-undo_at c).In-loop-t) (value (goal.at.returns-then-not-undo_at c).After-undo_at) c.undo_at.ensures
+    let here = goal.at.returns-then-not-undo_at c in
+    filled-refused (fills here.Start) (turn here.In-loop-t) (value here.After-undo_at) c.undo_at.ensures
     (c.if-not-undo_at.true)
 
 pub loop-t-preserved : goal.loop-t-preserved
 unfolding in_place
 loop-t-preserved c =
-    (
+    let here = goal.at.loop-t-preserved c in (
       omega arith,
       c.loop-t.invariant.1,
-      let e = place (goal.at.loop-t-preserved c).In-loop-t in let z : c.args.f.order - (c.loop-t.t + 1) ≡ c.args.f.order - 1 - c.loop-t.t = omega arith in rw z
+      let e = place here.In-loop-t in
+          let z : c.args.f.order - (c.loop-t.t + 1) ≡ c.args.f.order - 1 - c.loop-t.t = omega arith in rw z
           (omega arith),
-      filled_next (fills (goal.at.loop-t-preserved c).Start) (turn (goal.at.loop-t-preserved c).In-loop-t) (value (goal.at.loop-t-preserved c).After-undo_at) c.undo_at.ensures c.loop-t.invariant.3
+      filled_next (fills here.Start) (turn here.In-loop-t) (value here.After-undo_at) c.undo_at.ensures c.loop-t.invariant.3
           (c.if-not-undo_at.false),
     )
 

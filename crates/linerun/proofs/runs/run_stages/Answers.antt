@@ -17,20 +17,19 @@ ranged :
 ranged l = let r = accepted-order l.requires.0 in rw l.loop-t.invariant.1 (r.least, r.most)
 
 pub count_at-n-requires : goal.count_at-n-requires
-count_at-n-requires c =     order-counts c.requires.0
+count_at-n-requires c = order-counts c.requires.0
 
 pub count_at-many-requires : goal.count_at-many-requires
-count_at-many-requires c =     count-counts c.requires.0
+count_at-many-requires c = count-counts c.requires.0
 
 pub loop-t-init : goal.loop-t-init
-loop-t-init c =
-    (
-      omega arith,
-      c.count_at-n.ensures,
-      c.count_at-many.ensures,
-      run-starts c.args.run c.args.sheet.now
-          c.requires.2,
-    )
+loop-t-init c = (
+  omega arith,
+  c.count_at-n.ensures,
+  c.count_at-many.ensures,
+  run-starts c.args.run c.args.sheet.now
+      c.requires.2,
+)
 
 -- the stage in turn
 in-turn : (c : In-loop-t) → c.loop-t.t < count c.args.sheet.now 1
@@ -41,10 +40,12 @@ T c = let s = c.args in nth_stage s.run.task (count s.sheet.now 1) c.loop-t.t
 
 pub run_stage-s-requires : goal.run_stage-s-requires
 run_stage-s-requires c =
-    let r = ranged (goal.at.run_stage-s-requires c).At-loop-t in (
+    let here = goal.at.run_stage-s-requires c in
+    let r = ranged here.At-loop-t in (
       r.0,
       r.1,
-      rw (c.nth_start-i.ensures, c.loop-t.invariant.1) (c.requires.0.each (T (goal.at.run_stage-s-requires c).In-loop-t) (stage-below _ _ _ (in-turn (goal.at.run_stage-s-requires c).In-loop-t))),
+      rw (c.nth_start-i.ensures, c.loop-t.invariant.1)
+          (c.requires.0.each (T here.In-loop-t) (stage-below _ _ _ (in-turn here.In-loop-t))),
       c.loop-t.invariant.3.small,
     )
 
@@ -60,18 +61,20 @@ told c = rw (c.nth_start-i.ensures, c.loop-t.invariant.1) at c.run_stage-s.ensur
 
 pub returns-then-not-s : goal.returns-then-not-s
 returns-then-not-s c =
-    run-ends-stopped c.args.run c.args.sheet.now c.loop-t.t (in-turn (goal.at.returns-then-not-s c).In-loop-t) c.loop-t.invariant.3
-    (stage-stops (line-listed c.args.sheet.now c.args.run.task) c.loop-t.t (in-turn (goal.at.returns-then-not-s c).In-loop-t) c.loop-t.invariant.3 (told (goal.at.returns-then-not-s c).After-run_stage-s)
+    let here = goal.at.returns-then-not-s c in
+    run-ends-stopped c.args.run c.args.sheet.now c.loop-t.t (in-turn here.In-loop-t) c.loop-t.invariant.3
+    (stage-stops (line-listed c.args.sheet.now c.args.run.task) c.loop-t.t (in-turn here.In-loop-t) c.loop-t.invariant.3
+    (told here.After-run_stage-s)
     (not-true _ c.if-not-s.true))
 
 pub loop-t-preserved : goal.loop-t-preserved
 loop-t-preserved c =
-    (
+    let here = goal.at.loop-t-preserved c in (
       omega arith,
       c.loop-t.invariant.1,
       c.loop-t.invariant.2,
-      stage-passes (line-listed c.args.sheet.now c.args.run.task) c.loop-t.t (in-turn (goal.at.loop-t-preserved c).In-loop-t) c.loop-t.invariant.3
-          (told (goal.at.loop-t-preserved c).After-run_stage-s)
+      stage-passes (line-listed c.args.sheet.now c.args.run.task) c.loop-t.t (in-turn here.In-loop-t) c.loop-t.invariant.3
+          (told here.After-run_stage-s)
           (not-false _ c.if-not-s.false),
     )
 

@@ -30,8 +30,9 @@ no_kind c =
 pub move_from-requires : goal.move_from-requires
 unfolding layout_at layout_by
 move_from-requires c =
+    let here = goal.at.move_from-requires c in
     let o = c.requires.1 in
-    rw c.layout_at-f.ensures (moves c.requires.1 c.requires.2 (yes-kind (goal.at.move_from-requires c).Then-is_move), λ m b. omega (arith, len (goal.at.move_from-requires c).Start))
+    rw c.layout_at-f.ensures (moves c.requires.1 c.requires.2 (yes-kind here.Then-is_move), λ m b. omega (arith, len here.Start))
 
 pub returns-then-is_move : goal.returns-then-is_move
 unfolding layout_at layout_by
@@ -77,14 +78,15 @@ undo_weights-requires c =
 pub returns-in-Inverse : goal.returns-in-Inverse
 unfolding layout_at layout_by limit_of stage_by
 returns-in-Inverse c =
+    let here = goal.at.returns-in-Inverse c in
     rw c.in-Inverse.is
     (rw (
       c.layout_at-f.ensures,
       c.is_down-down.ensures,
       c.is_even-even.ensures,
       by_tests c.args.run.rule,
-      undo-is c.args.run.rule _ _ _ c.requires.2 (no_kind (goal.at.returns-in-Inverse c).Else-is_move) c.args.x
-          (let o = c.requires.1 in omega (arith, len (goal.at.returns-in-Inverse c).Start)) (row_inside c.requires.0 c.requires.2),
+      undo-is c.args.run.rule _ _ _ c.requires.2 (no_kind here.Else-is_move) c.args.x
+          (let o = c.requires.1 in omega (arith, len here.Start)) (row_inside c.requires.0 c.requires.2),
     )
     at c.undo_weights.ensures)
 
@@ -100,6 +102,7 @@ allow_weights-requires c =
 pub returns-in-Allowance : goal.returns-in-Allowance
 unfolding layout_at layout_by limit_of stage_by
 returns-in-Allowance c =
+    let here = goal.at.returns-in-Allowance c in
     rw c.in-Allowance.is
-    (rw (c.layout_at-f.ensures, allow-is c.args.run.rule _ _ _ c.requires.2 (no_kind (goal.at.returns-in-Allowance c).Else-is_move) c.args.x) at
+    (rw (c.layout_at-f.ensures, allow-is c.args.run.rule _ _ _ c.requires.2 (no_kind here.Else-is_move) c.args.x) at
     c.allow_weights.ensures)

@@ -24,16 +24,19 @@ value c = back w64 _ c.allowed_at-z.type_inv ∙ c.allowed_at-z.ensures
 
 pub returns-then-not-is_within : goal.returns-then-not-is_within
 returns-then-not-is_within c =
+    let here = goal.at.returns-then-not-is_within c in
     let m = c.loop-m.m in
     let h = c.loop-m-test.true in
     step-stops
-    (beyond-there most_allowance c.args.f.order (fill c.args.f.order (F (goal.at.returns-then-not-is_within c).Start) c.args.b) m (F (goal.at.returns-then-not-is_within c).Start m) h
-    (fill-at _ (F (goal.at.returns-then-not-is_within c).Start) c.args.b m h (let o = c.requires.0.order in omega (arith, len (goal.at.returns-then-not-is_within c).Start)))
-    (test-no most_allowance (value (goal.at.returns-then-not-is_within c).After-allowed_at-z) c.is_within.ensures (c.if-not-is_within.true)))
+    (beyond-there most_allowance c.args.f.order (fill c.args.f.order (F here.Start) c.args.b) m (F here.Start m) h
+    (fill-at _ (F here.Start) c.args.b m h (let o = c.requires.0.order in omega (arith, len here.Start)))
+    (test-no most_allowance (value here.After-allowed_at-z) c.is_within.ensures (c.if-not-is_within.true)))
 
 pub returns : goal.returns
 returns c =
+    let here = goal.at.returns c in
     let l = c.loop-m in
     let e : l.m ≡ c.args.f.order = omega arith in
-    let y : l.c ≡ fill c.args.f.order (F (goal.at.returns c).Start) c.args.b = l.invariant.1 ∙ ap (λ (k : ℕ). fill k (F (goal.at.returns c).Start) c.args.b) e in
+    let y : l.c ≡ fill c.args.f.order (F here.Start) c.args.b =
+    l.invariant.1 ∙ ap (λ (k : ℕ). fill k (F here.Start) c.args.b) e in
     step-goes y l.invariant.2

@@ -57,12 +57,15 @@ added c = back w64 _ c.row_share.type_inv ∙ c.row_share.ensures ∙ rw c.row_o
 
 pub raise_line-requires : goal.raise_line-requires
 raise_line-requires c =
-    rw (magnitudes (goal.at.raise_line-requires c).After-magnitude_sum_at) (fits (within-+ (small (goal.at.raise_line-requires c).Start) (within-pos (unit - 1))) tt, fits (quotient-small (goal.at.raise_line-requires c).Start) tt)
+    let here = goal.at.raise_line-requires c in
+    rw (magnitudes here.After-magnitude_sum_at)
+    (fits (within-+ (small here.Start) (within-pos (unit - 1))) tt, fits (quotient-small here.Start) tt)
 
 pub raised-requires : goal.raised-requires
 raised-requires c =
+    let here = goal.at.raised-requires c in
     let b = c.requires.2.small c.args.m in
-    let h : Within 4096 (H (goal.at.raised-requires c).Start) = share-small c.args.rule (W (goal.at.raised-requires c).Start) in
-    let m = magnitudes (goal.at.raised-requires c).After-magnitude_sum_at in
-    rw (quotient (goal.at.raised-requires c).After-raise_line m, added (goal.at.raised-requires c).After-row_share, reads w32 b tt)
-    (fits b tt, fits (within-+ b (quotient-small (goal.at.raised-requires c).Start)) tt, fits (within-+ (within-+ b (quotient-small (goal.at.raised-requires c).Start)) h) tt)
+    let h : Within 4096 (H here.Start) = share-small c.args.rule (W here.Start) in
+    let m = magnitudes here.After-magnitude_sum_at in
+    rw (quotient here.After-raise_line m, added here.After-row_share, reads w32 b tt)
+    (fits b tt, fits (within-+ b (quotient-small here.Start)) tt, fits (within-+ (within-+ b (quotient-small here.Start)) h) tt)

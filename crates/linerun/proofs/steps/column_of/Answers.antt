@@ -5,7 +5,7 @@ use Rattle.linerun.proofs.steps.column_of.Goals as goal
 
 -- The two runs of entries, told apart by the test.
 pub returns-then-j-left : goal.returns-then-j-left
-returns-then-j-left c =     sym (column-left c.args.r c.args.m c.args.j c.if-j-left.true)
+returns-then-j-left c = sym (column-left c.args.r c.args.m c.args.j c.if-j-left.true)
 
 pub returns : goal.returns
-returns c =     sym (column-right c.args.r c.args.m c.args.j c.if-j-left.false)
+returns c = sym (column-right c.args.r c.args.m c.args.j c.if-j-left.false)

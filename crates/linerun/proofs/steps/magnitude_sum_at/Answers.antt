@@ -1,7 +1,7 @@
 -- The sum so far is that of the first j magnitudes (`magnitudes_to`), and small; all of them are the row's (`along-columns`).
-use Rattle.std.proofs.Common.{◌≡◌, ◌∙◌, ◌+◌, ◌<◌, arith, w32, w64, to_z, of_z}
+use Rattle.std.proofs.Common.{◌≡◌, ◌∙◌, ◌+◌, ◌<◌, arith, w32, to_z, of_z}
 use Rattle.factor.specs.Magnitudes.{magnitude_at}
-use Rattle.linerun.specs.RowColumns.{column_of, along-columns, column-below, magnitude-within, magnitudes-within}
+use Rattle.linerun.specs.RowColumns.{along-columns, column-below, magnitude-within, magnitudes-within}
 use Rattle.rules.specs.Numbers.{most_order}
 use Rattle.whole.specs.Machine.{fits, reads, back, within-+, within-*}
 use Rattle.linerun.proofs.steps.magnitude_sum_at.Goals as goal
@@ -20,10 +20,10 @@ below c =
     (column-below c.requires.0 c.loop-j.j c.loop-j-test.true)
 
 pub offset_bounds-b-column_of : goal.offset_bounds-b-column_of
-offset_bounds-b-column_of c =     omega (arith, below (goal.at.offset_bounds-b-column_of c).After-column_of)
+offset_bounds-b-column_of c = omega (arith, below (goal.at.offset_bounds-b-column_of c).After-column_of)
 
 pub bounds-b-column_of : goal.bounds-b-column_of
-bounds-b-column_of c =     below (goal.at.bounds-b-column_of c).After-column_of
+bounds-b-column_of c = below (goal.at.bounds-b-column_of c).After-column_of
 
 pub with_term-sum-requires : goal.with_term-sum-requires
 with_term-sum-requires c =

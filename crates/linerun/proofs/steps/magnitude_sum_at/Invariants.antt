@@ -1,7 +1,6 @@
 -- The sum so far is that of the first j magnitudes (`magnitudes_to`), and small; all of them are the row's (`along-columns`).
 use Rattle.std.proofs.Common.{◌≡◌, ◌-◌, ◌≤◌}
 use Rattle.linerun.specs.RowColumns.{magnitudes_to}
-use Rattle.whole.specs.Stated.{sum}
 use Rattle.linerun.proofs.steps.magnitude_sum_at.Given as goal
 
 abbrev pub invariant-loop-j : goal.invariant-loop-j
