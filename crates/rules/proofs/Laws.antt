@@ -17,3 +17,4 @@ pub mod Along
 pub mod PassProducts
 pub mod Padding
 pub mod CosineClose
+pub mod CosineElements
