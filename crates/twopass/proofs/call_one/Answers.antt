@@ -2,20 +2,14 @@
 use Rattle.std.proofs.Common.{◌≡◌, refl, ap, ◌∙◌, length}
 use Rattle.factor.specs.CallAnswers.{checks_of, checks-refuse, checks-fine, run-is-left}
 use Rattle.factor.specs.Tasks.{inputs_of, end_answer}
-use Rattle.rules.specs.Calls.{Plan}
 use Rattle.twopass.specs.Plans.{one_by, one_size_lem, one-stages, one-sheets, one-checks}
 use Rattle.twopass.proofs.call_one.Goals as goal
-use Rattle.twopass.proofs.call_one.Goals.{After-check_one-a, Start}
+use Rattle.twopass.proofs.call_one.Goals.{After-check_one-a}
 
--- The checks refuse (`checks-refuse`), or nothing is left but the run (`run-is-left`).
--- the plan that is called
-abbrev P : Start → Plan
-P s = one_by s.args.columns s.args.sheet.now s.args.other
-
--- what the checks told, of that plan
-told : (c : After-check_one-a) →
-    let a = c.args in
-    c.check_one-a.result ≡ checks_of a.rule a.task (P c.before) (length a.x.now) (length a.y.now)
+-- what the checks told, of the plan that is called
+told : (c : After-check_one-a) → let a = c.args in
+    c.check_one-a.result
+    ≡ checks_of a.rule a.task (one_by a.columns a.sheet.now a.other) (length a.x.now) (length a.y.now)
 told c =
     let a = c.args in
     c.check_one-a.ensures.0 ∙ one-checks a.sheet.now a.other a.columns a.rule a.task _ _
@@ -23,12 +17,14 @@ told c =
 pub returns-then-a-ne0 : goal.returns-then-a-ne0
 returns-then-a-ne0 c =
     let a = c.args in
-    checks-refuse a.rule a.task (P (goal.at.returns-then-a-ne0 c).Start) a.x.now a.y.now c.requires (told (goal.at.returns-then-a-ne0 c).After-check_one-a) c.if-a-ne0.true
+    checks-refuse a.rule a.task (one_by a.columns a.sheet.now a.other) a.x.now a.y.now c.requires
+    (told (goal.at.returns-then-a-ne0 c).After-check_one-a) c.if-a-ne0.true
 
 pub run_one-requires : goal.run_one-requires
 run_one-requires c =
     let a = c.args in
-    let h = checks-fine a.rule a.task (P (goal.at.run_one-requires c).Start) a.x.now a.y.now c.requires (told (goal.at.run_one-requires c).After-check_one-a) c.if-a-ne0.false in
+    let h = checks-fine a.rule a.task (one_by a.columns a.sheet.now a.other) a.x.now a.y.now c.requires
+        (told (goal.at.run_one-requires c).After-check_one-a) c.if-a-ne0.false in
     let b = one-sheets a.sheet.now a.other a.columns h.0 in
     let n = one_size_lem a.sheet.now a.other a.columns in
     record {
@@ -47,7 +43,8 @@ returns-then-run_one c =
     let a = c.args in
     let g = rw (c.run_by.ensures, c.if-run_one.true) at c.run_one.ensures in
     rw (
-      run-is-left a.rule a.task (P (goal.at.returns-then-run_one c).Start) a.x.now a.y.now c.requires (told (goal.at.returns-then-run_one c).After-check_one-a) c.if-a-ne0.false,
+      run-is-left a.rule a.task (one_by a.columns a.sheet.now a.other) a.x.now a.y.now c.requires
+          (told (goal.at.returns-then-run_one c).After-check_one-a) c.if-a-ne0.false,
       one_size_lem a.sheet.now a.other a.columns,
       one-stages a.sheet.now a.other a.columns,
     )
@@ -58,7 +55,8 @@ returns c =
     let a = c.args in
     let g = rw (c.run_by.ensures, c.if-run_one.false) at c.run_one.ensures in
     rw (
-      run-is-left a.rule a.task (P (goal.at.returns c).Start) a.x.now a.y.now c.requires (told (goal.at.returns c).After-check_one-a) c.if-a-ne0.false,
+      run-is-left a.rule a.task (one_by a.columns a.sheet.now a.other) a.x.now a.y.now c.requires
+          (told (goal.at.returns c).After-check_one-a) c.if-a-ne0.false,
       one_size_lem a.sheet.now a.other a.columns,
       one-stages a.sheet.now a.other a.columns,
     )

@@ -2,26 +2,20 @@
 use Rattle.std.proofs.Common.{refl, ap, ◌∙◌}
 use Rattle.factor.specs.CallAnswers.{checks-refuse, checks-fine, run-is-left}
 use Rattle.factor.specs.Tasks.{inputs_of, end_answer}
-use Rattle.rules.specs.Calls.{Plan}
 use Rattle.twopass.specs.Plans.{two_by, two_size_lem, two-stages, two-sheets}
 use Rattle.twopass.proofs.call_two.Goals as goal
-use Rattle.twopass.proofs.call_two.Goals.{Start}
-
--- The checks refuse (`checks-refuse`), or nothing is left but the run (`run-is-left`).
--- the plan that is called
-abbrev P : Start → Plan
-P s = two_by s.args.columns s.args.first.now s.args.second.now
 
 pub returns-then-a-ne0 : goal.returns-then-a-ne0
 returns-then-a-ne0 c =
     let a = c.args in
-    checks-refuse a.rule a.task (P (goal.at.returns-then-a-ne0 c).Start) a.x.now a.y.now c.requires.1 c.check_in_order-a.ensures.0 c.if-a-ne0.true
+    checks-refuse a.rule a.task (two_by a.columns a.first.now a.second.now) a.x.now a.y.now c.requires.1
+    c.check_in_order-a.ensures.0 c.if-a-ne0.true
 
 pub run_two-requires : goal.run_two-requires
 run_two-requires c =
     let a = c.args in
-    let h = checks-fine a.rule a.task (P (goal.at.run_two-requires c).Start) a.x.now a.y.now c.requires.1 c.check_in_order-a.ensures.0
-    c.if-a-ne0.false in
+    let h = checks-fine a.rule a.task (two_by a.columns a.first.now a.second.now) a.x.now a.y.now c.requires.1
+        c.check_in_order-a.ensures.0 c.if-a-ne0.false in
     let t = c.check_in_order-a.ensures.1 c.if-a-ne0.false in
     let b = two-sheets a.first.now a.second.now a.columns h.0 in
     let n = two_size_lem a.first.now a.second.now a.columns in
@@ -42,7 +36,8 @@ returns-then-run_two c =
     let a = c.args in
     let g = rw (c.run_by.ensures, c.if-run_two.true) at c.run_two.ensures in
     rw (
-      run-is-left a.rule a.task (P (goal.at.returns-then-run_two c).Start) a.x.now a.y.now c.requires.1 c.check_in_order-a.ensures.0 c.if-a-ne0.false,
+      run-is-left a.rule a.task (two_by a.columns a.first.now a.second.now) a.x.now a.y.now c.requires.1
+          c.check_in_order-a.ensures.0 c.if-a-ne0.false,
       two_size_lem a.first.now a.second.now a.columns,
       two-stages a.first.now a.second.now a.columns,
     )
@@ -53,7 +48,8 @@ returns c =
     let a = c.args in
     let g = rw (c.run_by.ensures, c.if-run_two.false) at c.run_two.ensures in
     rw (
-      run-is-left a.rule a.task (P (goal.at.returns c).Start) a.x.now a.y.now c.requires.1 c.check_in_order-a.ensures.0 c.if-a-ne0.false,
+      run-is-left a.rule a.task (two_by a.columns a.first.now a.second.now) a.x.now a.y.now c.requires.1
+          c.check_in_order-a.ensures.0 c.if-a-ne0.false,
       two_size_lem a.first.now a.second.now a.columns,
       two-stages a.first.now a.second.now a.columns,
     )

@@ -4,9 +4,8 @@ use Rattle.laws.specs.Accepted.{accepted-order, order-counts}
 use Rattle.passrun.specs.OneLaws.{named-read}
 use Rattle.passrun.proofs.block.element_in_pass.Goals as goal
 
--- The block is read off, and the element found at its front (`named-read`).
 pub count_at-n-requires : goal.count_at-n-requires
-count_at-n-requires c =     order-counts c.requires.0
+count_at-n-requires c = order-counts c.requires.0
 
 pub read_off-requires : goal.read_off-requires
 read_off-requires c =

@@ -3,7 +3,6 @@ use Rattle.std.proofs.Common.{◌∙◌}
 use Rattle.passrun.specs.BlockLaws.{from-columns, from-rows, into-lines, out-columns, out-rows}
 use Rattle.passrun.proofs.block.store.Goals as goal
 
--- The numbers of every line, from side by side to reading order (`out-columns`, `out-rows`).
 pub copy_lines-requires : goal.copy_lines-requires
 copy_lines-requires c =
     let a = c.args in (

@@ -1,5 +1,5 @@
 -- After t stages a pass over any lines of that number and length stands at the block (`pass-goes`), which is in bound.
-use Rattle.std.proofs.Common.{◌≡◌, ℕ, ◌-◌, ◌≤◌, length}
+use Rattle.std.proofs.Common.{◌≡◌, ℕ, ◌≤◌, length}
 use Rattle.factor.specs.SumBounds.{Bounded}
 use Rattle.factor.specs.Tasks.{limit_of}
 use Rattle.passrun.specs.Laid.{laid}
@@ -12,8 +12,5 @@ use Rattle.passrun.proofs.passes.run_pass.Given as goal
 abbrev pub invariant-loop-t : goal.invariant-loop-t
 invariant-loop-t l =
     (l.t ≤ l.to) × (l.n ≡ count l.sheet 0) × Bounded (limit_of l.run.task) l.x × (length l.x ≡ 256)
-    × ((N : ℕ) (r : Lines) → LinesOf N r l.sheet l.w → (ran : Ran) → PassStands l.run N r l.sheet ran 0 (laid N r l.initial.x) →
-    PassStands l.run N r l.sheet ran l.t (laid N r l.x))
-
-abbrev pub decreases-loop-t : goal.decreases-loop-t
-decreases-loop-t l = l.to - l.t
+    × ((N : ℕ) (r : Lines) → LinesOf N r l.sheet l.w → (ran : Ran) →
+    PassStands l.run N r l.sheet ran 0 (laid N r l.initial.x) → PassStands l.run N r l.sheet ran l.t (laid N r l.x))
