@@ -25,6 +25,5 @@ loop-k-preserved c =
     let room : length y ≡ length b * p.size = rw c.requires.2 at c.requires.4 in
     let few : l.k + 1 ≤ length b = omega (arith, c.loop-k-test.true) in
     let d = done-step p call x y b whole long room l.invariant.4 c.args.n _ c.requires.2 (width (l.k * c.args.n) _)
-    c.run_block.new.1.1.1.1.1.1.1.0 c.run_block.result
-    (omega arith) c.run_block.auto.1.1.1.1.1.1.1.0 c.run_block.ensures in
+    c.run_block.new.y c.run_block.result (omega arith) c.run_block.auto.y c.run_block.ensures in
     (few, refl, done-long p call x y b whole long room d few, done-bytes p call x y b whole long room d few, d)
