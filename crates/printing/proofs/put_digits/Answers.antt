@@ -1,7 +1,7 @@
 -- The loop: the digits at the first t powers are written.
 use Rattle.std.proofs.Common.{◌++◌, sym, ap, ◌∙◌, ℕ, arith}
 use Rattle.printing.specs.Digits.{digits-none, digits-next}
-use Rattle.printing.specs.Program.{power, digit_at, digits}
+use Rattle.printing.specs.Program.{digit_at, digits}
 use Rattle.printing.specs.Writing.{wrote_none, wrote_then, wrote_as}
 use Rattle.printing.proofs.put_digits.Goals as goal
 
