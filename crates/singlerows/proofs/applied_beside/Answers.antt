@@ -31,5 +31,6 @@ applied-requires c =
     let e = product (goal.at.applied-requires c).Start in
     let x = within-sign e (number (goal.at.applied-requires c).Start) in
     let q = rounded-sum-small c.requires.1 c.requires.0.sign (rule_by c.args.down c.args.even) in
-    rw (rounded (goal.at.applied-requires c).After-rounded_beside, sign (goal.at.applied-requires c).After-sign_in, reads w32 (number (goal.at.applied-requires c).Start) tt)
+    let g = goal.at.applied-requires c in
+    rw (rounded g.After-rounded_beside, sign g.After-sign_in, reads w32 (number g.Start) tt)
     (fits (sign-within e) tt, fits (number (goal.at.applied-requires c).Start) tt, fits x tt, fits (within-+ x q) tt)

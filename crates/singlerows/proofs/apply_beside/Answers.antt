@@ -3,7 +3,7 @@ use Rattle.std.proofs.Common.{◌≡◌, refl, ◌∙◌, ◌+◌, ◌*◌, arit
 use Rattle.factor.specs.Rounding.{rule_by}
 use Rattle.factor.specs.SumBounds.{bounded-set, test-no, test-yes}
 use Rattle.joint.specs.Elements.{sign_at, applied_of}
-use Rattle.rules.specs.Numbers.{bound, at}
+use Rattle.rules.specs.Numbers.{bound}
 use Rattle.singlerows.specs.LaidRows.{laid-room, laid-column, laid-given, laid-narrow, laid-turned, applied-laid}
 use Rattle.singlerows.specs.SingleRows.{Turned}
 use Rattle.singlerows.specs.SingleRowsInPlace.{row-through, row-beyond, turned-small, applied-row}

@@ -8,7 +8,7 @@ use Rattle.joint.specs.Triangles.{total_of, applied_in, applied-from, applied-in
 use Rattle.rules.specs.Numbers.{bound, at}
 use Rattle.singlerows.specs.SingleRowsInPlace.{row-through, row-beyond, turn-beyond, turn-next}
 use Rattle.whole.specs.Diff.{Within}
-use Rattle.whole.specs.Machine.{fits, reads, back}
+use Rattle.whole.specs.Machine.{reads, back}
 use Rattle.singlerows.proofs.apply_elements.Goals as goal
 use Rattle.singlerows.proofs.apply_elements.Goals.{After-applied_whole-z, After-crossing_total-s, After-sign_at, Else-not-is_within, In-loop-j}
 

@@ -13,7 +13,8 @@ pub turned-requires : goal.turned-requires
 turned-requires c =
     let e = to_z-of_z c.ranges.d in (
       subst Sign (sym e) c.requires.1,
-      subst (SFits w64) (sym (ap₂ ◌*ℤ◌ e (sum_is (goal.at.turned-requires c).After-narrow_sum))) (fits (turned-sum-small c.requires.0 c.requires.1) tt),
+      subst (SFits w64) (sym (ap₂ ◌*ℤ◌ e (sum_is (goal.at.turned-requires c).After-narrow_sum)))
+          (fits (turned-sum-small c.requires.0 c.requires.1) tt),
     )
 
 value : (c : After-turned) → to_z w64 (of_z w64 c.turned.result)

@@ -30,8 +30,9 @@ value c =
 
 pub loop-j-preserved : goal.loop-j-preserved
 loop-j-preserved c =
-    (
+    let g = goal.at.loop-j-preserved c in (
       omega arith,
-      rw (value (goal.at.loop-j-preserved c).After-turned_number, to_z-of_z c.ranges.d)
-          (turned-next (rw (to_z-of_z c.ranges.d) at c.loop-j.invariant.1) (let h = room (goal.at.loop-j-preserved c).In-loop-j in omega (arith, c.requires.1))),
+      rw (value g.After-turned_number, to_z-of_z c.ranges.d)
+          (turned-next (rw (to_z-of_z c.ranges.d) at c.loop-j.invariant.1)
+          (let h = room g.In-loop-j in omega (arith, c.requires.1))),
     )

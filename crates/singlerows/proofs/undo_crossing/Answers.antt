@@ -50,13 +50,13 @@ room p =
     in_block p.nth_undone-j.result s.requires.0.order s.requires.1.order s.requires.2 (inside-order p)
 
 pub overflow_add-e : goal.overflow_add-e
-overflow_add-e c =     let h = room (goal.at.overflow_add-e c).After-nth_undone-j in omega arith
+overflow_add-e c = let h = room (goal.at.overflow_add-e c).After-nth_undone-j in omega arith
 
 pub offset_bounds-x-e : goal.offset_bounds-x-e
-offset_bounds-x-e c =     let h = room (goal.at.offset_bounds-x-e c).After-nth_undone-j in omega arith
+offset_bounds-x-e c = let h = room (goal.at.offset_bounds-x-e c).After-nth_undone-j in omega arith
 
 pub bounds-x-e : goal.bounds-x-e
-bounds-x-e c =     let h = room (goal.at.bounds-x-e c).After-nth_undone-j in omega arith
+bounds-x-e c = let h = room (goal.at.bounds-x-e c).After-nth_undone-j in omega arith
 
 -- what the element was
 abbrev F : After-nth_undone-j → ℤ
@@ -115,20 +115,20 @@ held : (c : Else-not-is_within) → Within bound (F c.before.before.before.befor
 held c = test-yes bound (value c.before.before) c.is_within.ensures (c.if-not-is_within.false)
 
 pub offset_bounds-x-e-in-loop-u : goal.offset_bounds-x-e-in-loop-u
-offset_bounds-x-e-in-loop-u c =     let h = room (goal.at.offset_bounds-x-e-in-loop-u c).After-nth_undone-j in omega arith
+offset_bounds-x-e-in-loop-u c = let h = room (goal.at.offset_bounds-x-e-in-loop-u c).After-nth_undone-j in omega arith
 
 pub bounds-x-e-in-loop-u : goal.bounds-x-e-in-loop-u
-bounds-x-e-in-loop-u c =     let h = room (goal.at.bounds-x-e-in-loop-u c).After-nth_undone-j in omega arith
+bounds-x-e-in-loop-u c = let h = room (goal.at.bounds-x-e-in-loop-u c).After-nth_undone-j in omega arith
 
 -- a column of the row of sums
 column : (p : After-nth_undone-j) → p.nth_undone-j.result < 16
 column p = let h = inside-order p in let o = p.before.requires.1.order in omega arith
 
 pub offset_bounds-v-j : goal.offset_bounds-v-j
-offset_bounds-v-j c =     let h = column (goal.at.offset_bounds-v-j c).After-nth_undone-j in omega arith
+offset_bounds-v-j c = let h = column (goal.at.offset_bounds-v-j c).After-nth_undone-j in omega arith
 
 pub bounds-v-j : goal.bounds-v-j
-bounds-v-j c =     let h = column (goal.at.bounds-v-j c).After-nth_undone-j in omega arith
+bounds-v-j c = let h = column (goal.at.bounds-v-j c).After-nth_undone-j in omega arith
 
 diagonal-is-small : (p : After-nth_undone-j) → Within most_entry (diagonal_of (D p))
 diagonal-is-small p =
@@ -151,10 +151,10 @@ with_sum-requires c =
     (fits o tt, fits (within-* o h) tt, fits (within-+ v (within-* o h)) tt)
 
 pub offset_bounds-v-j-in-loop-u : goal.offset_bounds-v-j-in-loop-u
-offset_bounds-v-j-in-loop-u c =     let h = column (goal.at.offset_bounds-v-j-in-loop-u c).After-nth_undone-j in omega arith
+offset_bounds-v-j-in-loop-u c = let h = column (goal.at.offset_bounds-v-j-in-loop-u c).After-nth_undone-j in omega arith
 
 pub bounds-v-j-in-loop-u : goal.bounds-v-j-in-loop-u
-bounds-v-j-in-loop-u c =     let h = column (goal.at.bounds-v-j-in-loop-u c).After-nth_undone-j in omega arith
+bounds-v-j-in-loop-u c = let h = column (goal.at.bounds-v-j-in-loop-u c).After-nth_undone-j in omega arith
 
 -- the sum of the element's column, with the element
 abbrev G : After-nth_undone-j → ℤ

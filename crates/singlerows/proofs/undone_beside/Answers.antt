@@ -26,4 +26,6 @@ undone-requires c =
     let e = product (goal.at.undone-requires c).Start in
     let y = c.requires.3 in
     let q = within-- y (rounded-sum-small c.requires.1 c.requires.0.sign (rule_by c.args.down c.args.even)) in
-    rw (rounded (goal.at.undone-requires c).After-rounded_beside, sign (goal.at.undone-requires c).After-sign_in, to_z-of_z c.ranges.y) (e, fits y tt, fits q tt, fits (within-sign e q) tt)
+    let g = goal.at.undone-requires c in
+    rw (rounded g.After-rounded_beside, sign g.After-sign_in, to_z-of_z c.ranges.y)
+    (e, fits y tt, fits q tt, fits (within-sign e q) tt)

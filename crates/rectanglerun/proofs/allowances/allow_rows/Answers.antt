@@ -10,7 +10,7 @@ use Rattle.rectanglerun.proofs.allowances.allow_rows.Goals as goal
 use Rattle.rectanglerun.proofs.allowances.allow_rows.Goals.{After-nth_undone-i}
 
 pub loop-s-init : goal.loop-s-init
-loop-s-init c =     (omega arith, no_rows c.requires)
+loop-s-init c = (omega arith, no_rows c.requires)
 
 -- the row of this turn
 turn : (c : After-nth_undone-i) →
@@ -24,7 +24,9 @@ pub allow_row-r-requires : goal.allow_row-r-requires
 unfolding limit_of
 allow_row-r-requires c =
     let h = c.requires in
-    let a = c.loop-s.invariant.1 in (h.column, h.row, turn_below h c.loop-s-test.true (turn (goal.at.allow_row-r-requires c).After-nth_undone-i), a.small)
+    let a = c.loop-s.invariant.1 in
+    let t = turn (goal.at.allow_row-r-requires c).After-nth_undone-i in
+    (h.column, h.row, turn_below h c.loop-s-test.true t, a.small)
 
 pub returns-then-not-r : goal.returns-then-not-r
 unfolding limit_of element_of row_order
@@ -36,11 +38,9 @@ pub loop-s-preserved : goal.loop-s-preserved
 unfolding limit_of element_of row_order
 loop-s-preserved c =
     let h = c.requires in
-    let through = not-false _ c.if-not-r.false in (
-      omega arith,
-      row_more h c.loop-s-test.true c.loop-s.invariant.1 (turn (goal.at.loop-s-preserved c).After-nth_undone-i) c.allow_row-r.ensures
-          through,
-    )
+    let t = turn (goal.at.loop-s-preserved c).After-nth_undone-i in
+    let through = not-false _ c.if-not-r.false in
+    (omega arith, row_more h c.loop-s-test.true c.loop-s.invariant.1 t c.allow_row-r.ensures through)
 
 pub returns : goal.returns
 returns c =

@@ -13,10 +13,12 @@ use Rattle.rectanglerun.proofs.block.element.Goals as goal
 use Rattle.rectanglerun.proofs.block.element.Goals.{After-run_stages, Start}
 
 pub count_at-n1-requires : goal.count_at-n1-requires
-count_at-n1-requires c =     order-counts c.requires.0.column
+count_at-n1-requires c =
+    order-counts c.requires.0.column
 
 pub count_at-n2-requires : goal.count_at-n2-requires
-count_at-n2-requires c =     order-counts c.requires.0.row
+count_at-n2-requires c =
+    order-counts c.requires.0.row
 
 -- the turn of the stage
 in-turn : (s : Start) → s.args.stage - 1 < count s.args.col.now 1
@@ -81,7 +83,7 @@ joint_element-requires c =
     (p, (stands g.After-run_stages (few s)).small, rw (e, d) (omega (arith, size-most m, c.run_stages.ensures.1)))
 
 pub returns : goal.returns
-returns c =
+returns c z =
     let g = goal.at.returns c in
     let s = g.Start in
     let e = rw (

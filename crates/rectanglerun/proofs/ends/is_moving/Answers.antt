@@ -5,7 +5,7 @@ use Rattle.rectanglerun.proofs.ends.is_moving.Goals as goal
 
 -- The kind of the layout is that of the factor.
 pub count_at-n-requires : goal.count_at-n-requires
-count_at-n-requires c =     order-counts c.requires.0
+count_at-n-requires c = order-counts c.requires.0
 
 pub layout_at-requires : goal.layout_at-requires
 layout_at-requires c =

@@ -27,7 +27,7 @@ long : (s : Start) → length s.args.b.now ≡ 256
 long s = ap length s.requires.5
 
 pub is_moving-requires : goal.is_moving-requires
-is_moving-requires c =     (c.requires.0.column, c.requires.1, some (goal.at.is_moving-requires c).Start)
+is_moving-requires c = (c.requires.0.column, c.requires.1, some (goal.at.is_moving-requires c).Start)
 
 moves : (c : Then-is_moving) → let a = c.args in moves_in_turn a.col.now a.run.task 0 ≡ true
 moves c = sym c.is_moving.ensures ∙ c.if-is_moving.true
@@ -35,15 +35,22 @@ moves c = sym c.is_moving.ensures ∙ c.if-is_moving.true
 pub move_in_turn-requires : goal.move_in_turn-requires
 move_in_turn-requires c =
     let p = c.requires in
-    (p.0, p.1, p.2, some (goal.at.move_in_turn-requires c).Start, moves (goal.at.move_in_turn-requires c).Then-is_moving, omega (arith, whole (goal.at.move_in_turn-requires c).Then-n-gt0), omega (arith, long (goal.at.move_in_turn-requires c).Start, size-most p.0))
+    let g = goal.at.move_in_turn-requires c in
+    (p.0, p.1, p.2, some g.Start, moves g.Then-is_moving, omega (arith, whole g.Then-n-gt0),
+    omega (arith, long g.Start, size-most p.0))
 
 pub returns-then-is_moving : goal.returns-then-is_moving
 returns-then-is_moving c =
-    loads-moved c.requires.0 c.args.run (some (goal.at.returns-then-is_moving c).Start) (moves (goal.at.returns-then-is_moving c).Then-is_moving) (whole (goal.at.returns-then-is_moving c).Then-n-gt0) c.requires.4 (rw c.requires.5 at c.move_in_turn.ensures)
+    let g = goal.at.returns-then-is_moving c in
+    loads-moved c.requires.0 c.args.run (some g.Start) (moves g.Then-is_moving) (whole g.Then-n-gt0) c.requires.4
+    (rw c.requires.5 at c.move_in_turn.ensures)
 
 pub copy_front-requires : goal.copy_front-requires
 copy_front-requires c =
-        let h = few (goal.at.copy_front-requires c).Start in let l = long (goal.at.copy_front-requires c).Start in (omega arith, omega arith)
+    let s = (goal.at.copy_front-requires c).Start in
+    let h = few s in
+    let l = long s in
+    (omega arith, omega arith)
 
 pub returns : goal.returns
 returns c =

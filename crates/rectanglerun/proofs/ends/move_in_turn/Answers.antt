@@ -13,10 +13,10 @@ use Rattle.rectanglerun.proofs.ends.move_in_turn.Goals.{After-nth_start-j}
 
 -- The places are those of the factors in turn (`column-places`, `row-places`).
 pub count_at-n1-requires : goal.count_at-n1-requires
-count_at-n1-requires c =     order-counts c.requires.0.column
+count_at-n1-requires c = order-counts c.requires.0.column
 
 pub count_at-n2-requires : goal.count_at-n2-requires
-count_at-n2-requires c =     order-counts c.requires.0.row
+count_at-n2-requires c = order-counts c.requires.0.row
 
 pub nth_start-j-requires : goal.nth_start-j-requires
 nth_start-j-requires c =
@@ -51,16 +51,18 @@ row c =
     rw (row-start c, c.count_at-n2.ensures) (row-places c.requires.0 c.args.run _ c.requires.3 c.requires.4)
 
 pub overflow_add-i : goal.overflow_add-i
-overflow_add-i c =     let h = (pair (goal.at.overflow_add-i c).After-nth_start-j).column.kind.there in omega arith
+overflow_add-i c = let h = (pair (goal.at.overflow_add-i c).After-nth_start-j).column.kind.there in omega arith
 
 pub overflow_add-j : goal.overflow_add-j
-overflow_add-j c =     let h = (pair (goal.at.overflow_add-j c).After-nth_start-j).row.kind.there in omega arith
+overflow_add-j c = let h = (pair (goal.at.overflow_add-j c).After-nth_start-j).row.kind.there in omega arith
 
 pub move_into-requires : goal.move_into-requires
 move_into-requires c =
     let p = c.requires in
     let e = c.count_at-n1.ensures in
-    let f = c.count_at-n2.ensures in (column (goal.at.move_into-requires c).After-nth_start-j, row (goal.at.move_into-requires c).After-nth_start-j, rw (e, f) p.5, rw (e, f) p.6)
+    let f = c.count_at-n2.ensures in
+    let j = (goal.at.move_into-requires c).After-nth_start-j in
+    (column j, row j, rw (e, f) p.5, rw (e, f) p.6)
 
 pub returns : goal.returns
 returns c =

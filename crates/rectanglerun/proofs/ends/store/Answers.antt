@@ -9,7 +9,7 @@ use Rattle.rectanglerun.proofs.ends.store.Goals.{Then-t-many}
 
 -- The copy out with the last stage is `stores-moved`, after it `stores-copied`.
 pub count_at-many-requires : goal.count_at-many-requires
-count_at-many-requires c =     count-counts c.requires.0.column
+count_at-many-requires c = count-counts c.requires.0.column
 
 -- a stage is left
 one_left : (c : Then-t-many) → let a = c.args in a.t < count a.col.now 1

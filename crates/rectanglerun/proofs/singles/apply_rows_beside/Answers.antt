@@ -1,5 +1,5 @@
 -- The block has the turns from 1 to s (`turns_more`), and the rows after them ask of it what the first one did.
-use Rattle.std.proofs.Common.{true, ◌≢◌, ◌≡◌, refl, ◌∙◌, ◌-◌, arith}
+use Rattle.std.proofs.Common.{◌≢◌, ◌≡◌, refl, ◌∙◌, ◌-◌, arith}
 use borrow.Author.Tests.{not-true, not-false}
 use Rattle.factor.specs.Tasks.{limit_of}
 use Rattle.factor.specs.declared.run.Task.TheVariants.{Forward}

@@ -10,7 +10,7 @@ use Rattle.rectanglerun.proofs.triangles.undo_upper_rows.Goals as goal
 use Rattle.rectanglerun.proofs.triangles.undo_upper_rows.Goals.{In-loop-s}
 
 pub loop-s-init : goal.loop-s-init
-loop-s-init c =     (omega arith, no_rows c.requires.0)
+loop-s-init c = (omega arith, no_rows c.requires.0)
 
 -- the row of this turn
 turn : (i : In-loop-s) →
