@@ -1,7 +1,6 @@
 -- The first j numbers are moved.
 use Rattle.std.proofs.Common.{◌≡◌, ◌-◌, ◌≤◌}
 use Rattle.pairmoves.specs.MovedAside.{place_at, moved_row}
-use Rattle.whole.specs.Machine.{back}
 use Rattle.pairmoves.proofs.move_row.Given as goal
 
 abbrev pub invariant-loop-j : goal.invariant-loop-j
