@@ -4,7 +4,6 @@ use Rattle.factor.specs.Tasks.{is_inverse}
 use Rattle.pairmoves.specs.Moves.{source_of, few, rows, columns, pair-moved}
 use Rattle.pairmoves.proofs.move_pair.Goals as goal
 
--- The rows and then the columns take every number where the pair of permutations says (`pair-moved`).
 pub move_lines-requires : goal.move_lines-requires
 move_lines-requires c =
     let p = c.requires in (p.1, rows _ _ _ (omega (arith, few p.0 p.1)))
