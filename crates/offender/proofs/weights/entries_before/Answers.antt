@@ -5,7 +5,6 @@ use Rattle.rules.specs.Factors.{entries_before}
 use Rattle.offender.proofs.weights.entries_before.Goals as goal
 use Rattle.offender.proofs.weights.entries_before.Goals.{Start}
 
--- Each kind is a line of `entries_before`; a factor has fewer than 256 entries (`before-most`).
 -- a factor has few entries
 few : (s : Start) → let a = s.args in entries_before a.kind a.n a.r a.m a.k < 256
 few s = before-most _ _ _ _ _ s.requires.0 s.requires.1 s.requires.2 s.requires.3 s.requires.4

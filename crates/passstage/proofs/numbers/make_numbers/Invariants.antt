@@ -6,7 +6,6 @@ use Rattle.passstage.specs.Parts.{joined}
 use Rattle.passstage.specs.RowLaws.{Judged}
 use Rattle.rules.specs.Numbers.{unit, at}
 use Rattle.rules.specs.Stages.{R}
-use Rattle.whole.specs.Machine.{back}
 use Rattle.passstage.proofs.numbers.make_numbers.Given as goal
 
 abbrev pub invariant-loop-l : goal.invariant-loop-l

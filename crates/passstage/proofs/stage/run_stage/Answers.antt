@@ -13,7 +13,6 @@ use Rattle.rules.specs.declared.Kind.TheVariants.{Permutation}
 use Rattle.passstage.proofs.stage.run_stage.Goals as goal
 use Rattle.passstage.proofs.stage.run_stage.Goals.{Else-is_allowance, Else-is_move, Then-is_allowance, Then-is_move}
 
--- A permutation and a factor with weights are each the document's stage, line by line (`StageLaws`). One call takes the rows of
 -- both tasks that are no allowances.
 yes-kind : (c : Then-is_move) →
     kind_of (count c.args.sheet.now c.args.i) ≡ Permutation

@@ -8,7 +8,6 @@ use Rattle.striprun.specs.Plans.{plan_of}
 use Rattle.striprun.proofs.blocks.size_of.Goals as goal
 use Rattle.striprun.proofs.blocks.size_of.Goals.{In-Joint, In-Line}
 
--- The orders of checked sheets.
 -- the sheets were checked
 one : (c : In-Line) → (checked c.args.col.now).number ≡ 0
 unfolding plan_of line

@@ -5,7 +5,6 @@ use Rattle.striprun.specs.Plans.{plan_of}
 use Rattle.striprun.proofs.runs.strip_by.Goals as goal
 use Rattle.striprun.proofs.runs.strip_by.Goals.{Start}
 
--- 16 first (`rule-stops`), then the strip by that rule (`rule-goes`).
 abbrev plan : Start → Plan
 plan s = plan_of s.args.shape s.args.col.now s.args.row.now
 
