@@ -17,7 +17,6 @@ record Inside (e : ℕ) (v y z : List ℤ) : Type 0 where
   y-long : e ≤ length y
   z-long : e ≤ length z
 
-
 inside : (c : After-block_at-e)
     → Inside c.block_at-e.result c.args.v.now
     c.args.y.now c.args.z.now
@@ -37,16 +36,16 @@ returns-then-a-ne0 c =
     wrote_as c.put_refusal.ensures (ap refusal e ∙ session-refused v some)
 
 pub block_at-e-requires : goal.block_at-e-requires
-block_at-e-requires c =     (counted (goal.at.block_at-e-requires c).Else-a-ne0).natural
+block_at-e-requires c = (counted (goal.at.block_at-e-requires c).Else-a-ne0).natural
 
 pub slice_bounds-put_runs-count-2 : goal.slice_bounds-put_runs-count-2
-slice_bounds-put_runs-count-2 c =     let h = inside (goal.at.slice_bounds-put_runs-count-2 c).After-block_at-e in search rules
+slice_bounds-put_runs-count-2 c = let h = inside (goal.at.slice_bounds-put_runs-count-2 c).After-block_at-e in search rules
 
 pub slice_bounds-put_runs-count-3 : goal.slice_bounds-put_runs-count-3
-slice_bounds-put_runs-count-3 c =     let h = inside (goal.at.slice_bounds-put_runs-count-3 c).After-block_at-e in search rules
+slice_bounds-put_runs-count-3 c = let h = inside (goal.at.slice_bounds-put_runs-count-3 c).After-block_at-e in search rules
 
 pub slice_bounds-put_runs-count-4 : goal.slice_bounds-put_runs-count-4
-slice_bounds-put_runs-count-4 c =     let h = inside (goal.at.slice_bounds-put_runs-count-4 c).After-block_at-e in search rules
+slice_bounds-put_runs-count-4 c = let h = inside (goal.at.slice_bounds-put_runs-count-4 c).After-block_at-e in search rules
 
 pub returns : goal.returns
 returns c =

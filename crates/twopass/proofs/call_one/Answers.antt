@@ -24,7 +24,7 @@ pub run_one-requires : goal.run_one-requires
 run_one-requires c =
     let a = c.args in
     let h = checks-fine a.rule a.task (one_by a.columns a.sheet.now a.other) a.x.now a.y.now c.requires
-        (told (goal.at.run_one-requires c).After-check_one-a) c.if-a-ne0.false in
+    (told (goal.at.run_one-requires c).After-check_one-a) c.if-a-ne0.false in
     let b = one-sheets a.sheet.now a.other a.columns h.0 in
     let n = one_size_lem a.sheet.now a.other a.columns in
     record {

@@ -15,7 +15,7 @@ pub run_two-requires : goal.run_two-requires
 run_two-requires c =
     let a = c.args in
     let h = checks-fine a.rule a.task (two_by a.columns a.first.now a.second.now) a.x.now a.y.now c.requires.1
-        c.check_in_order-a.ensures.0 c.if-a-ne0.false in
+    c.check_in_order-a.ensures.0 c.if-a-ne0.false in
     let t = c.check_in_order-a.ensures.1 c.if-a-ne0.false in
     let b = two-sheets a.first.now a.second.now a.columns h.0 in
     let n = two_size_lem a.first.now a.second.now a.columns in

@@ -23,12 +23,11 @@ pub count_at-k-requires : goal.count_at-k-requires
 count_at-k-requires c = count-counts c.requires.0.one
 
 pub run_one_pass-requires : goal.run_one_pass-requires
-run_one_pass-requires c =
-    (
-      rw c.count_at-m.ensures (first-asks c.args.columns c.args.run c.requires.0),
-      omega (arith, c.smaller.ensures, c.count_at-k.ensures),
-      c.requires.1,
-    )
+run_one_pass-requires c = (
+  rw c.count_at-m.ensures (first-asks c.args.columns c.args.run c.requires.0),
+  omega (arith, c.smaller.ensures, c.count_at-k.ensures),
+  c.requires.1,
+)
 
 -- ---- refused in the first pass
 early : (c : Then-t-k) → let a = c.args in

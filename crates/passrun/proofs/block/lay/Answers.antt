@@ -10,8 +10,7 @@ returns-then-x-eq0 c =
 pub copy_lines-requires : goal.copy_lines-requires
 copy_lines-requires c =
     let a = c.args in
-    let l = rw c.if-columns.true at (lent-all a.x.now c.requires.2 c.if-x-eq0.false) in
-    (
+    let l = rw c.if-columns.true at (lent-all a.x.now c.requires.2 c.if-x-eq0.false) in (
       from-columns a.many a.long c.requires.0 c.requires.1 l,
       into-lines a.many a.long c.requires.0 c.requires.1 (ap length c.requires.3),
     )
@@ -26,8 +25,7 @@ returns-then-columns c =
 pub copy_lines-requires-2 : goal.copy_lines-requires-2
 copy_lines-requires-2 c =
     let a = c.args in
-    let l = rw c.if-columns.false at (lent-all a.x.now c.requires.2 c.if-x-eq0.false) in
-    (
+    let l = rw c.if-columns.false at (lent-all a.x.now c.requires.2 c.if-x-eq0.false) in (
       from-rows a.many a.long c.requires.0 c.requires.1 l,
       into-lines a.many a.long c.requires.0 c.requires.1 (ap length c.requires.3),
     )

@@ -23,8 +23,7 @@ laid_in l = rw l.count_at.ensures at l.lay.ensures
 
 pub run_pass-requires : goal.run_pass-requires
 run_pass-requires c =
-    let p = c.requires.0 in
-    (
+    let p = c.requires.0 in (
       p.sheet,
       p.places,
       p.most,

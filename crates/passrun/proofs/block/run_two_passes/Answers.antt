@@ -18,12 +18,11 @@ pub count_at-requires : goal.count_at-requires
 count_at-requires c = order-counts c.requires.0.next
 
 pub run_one_pass-r-requires : goal.run_one_pass-r-requires
-run_one_pass-r-requires c =
-    (
-      rw c.count_at.ensures (first-asks c.args.columns c.args.run c.requires.0),
-      rw c.count_at-k.ensures (le_refl (count c.args.first.now 1)),
-      c.requires.1,
-    )
+run_one_pass-r-requires c = (
+  rw c.count_at.ensures (first-asks c.args.columns c.args.run c.requires.0),
+  rw c.count_at-k.ensures (le_refl (count c.args.first.now 1)),
+  c.requires.1,
+)
 
 ended : (r : After-run_one_pass-r) → let a = r.args in
     OneDone a.columns a.run a.first.now (count a.second.now 0) a.x.now (count a.first.now 1)

@@ -37,7 +37,7 @@ lift-small s =
 
 pub overflow_cast-a : goal.overflow_cast-a
 overflow_cast-a c =
-        rw (lifted (goal.at.overflow_cast-a c).After-lift-a) (fits (lift-small (start (goal.at.overflow_cast-a c).After-lift-a)) tt)
+    rw (lifted (goal.at.overflow_cast-a c).After-lift-a) (fits (lift-small (start (goal.at.overflow_cast-a c).After-lift-a)) tt)
 
 sum-small : (s : Start) → Within (most_parts + unit / 2) (s.args.l +ℤ pos (A s))
 sum-small s = within-+ s.requires.1 (lift-small s)

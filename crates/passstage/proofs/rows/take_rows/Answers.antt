@@ -7,7 +7,7 @@ use Rattle.passstage.proofs.rows.take_rows.Goals as goal
 use Rattle.passstage.proofs.rows.take_rows.Goals.{Start}
 
 pub loop-t-init : goal.loop-t-init
-loop-t-init c =     (omega arith, no-turn c.requires.3 c.requires.4)
+loop-t-init c = (omega arith, no-turn c.requires.3 c.requires.4)
 
 abbrev K : Start → Rule
 K s = rule_by s.args.down s.args.even

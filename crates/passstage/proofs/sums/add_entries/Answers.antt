@@ -7,7 +7,7 @@ use Rattle.passstage.proofs.sums.add_entries.Goals as goal
 use Rattle.passstage.proofs.sums.add_entries.Goals.{In-loop-j}
 
 pub loop-j-init : goal.loop-j-init
-loop-j-init c =     (omega arith, parting-none c.requires.0 c.requires.1)
+loop-j-init c = (omega arith, parting-none c.requires.0 c.requires.1)
 
 -- column j lies in the block
 column : (i : In-loop-j) → i.args.k + i.loop-j.j * 16 + 16 ≤ 256

@@ -9,13 +9,12 @@ entry : (s : Start) → to_z w32 (of_z w32 (to_z w16 (of_z w16 (to_z w32 (of_z w
 entry s = rw (to_z-of_z s.ranges.a, reads w16 s.requires.2 tt) (to_z-of_z s.ranges.a)
 
 pub add_products-requires : goal.add_products-requires
-add_products-requires c =
-    (
-      c.requires.0,
-      products-small c.args.k c.requires.2 c.requires.3 (rw (entry (goal.at.add_products-requires c).Start) at c.products.ensures),
-      c.requires.4,
-      c.requires.5,
-    )
+add_products-requires c = (
+  c.requires.0,
+  products-small c.args.k c.requires.2 c.requires.3 (rw (entry (goal.at.add_products-requires c).Start) at c.products.ensures),
+  c.requires.4,
+  c.requires.5,
+)
 
 pub returns : goal.returns
 returns c =

@@ -35,9 +35,15 @@ moves c = sym c.is_moving.ensures ∙ c.if-is_moving.true
 pub move_in_turn-requires : goal.move_in_turn-requires
 move_in_turn-requires c =
     let p = c.requires in
-    let g = goal.at.move_in_turn-requires c in
-    (p.0, p.1, p.2, some g.Start, moves g.Then-is_moving, omega (arith, whole g.Then-n-gt0),
-    omega (arith, long g.Start, size-most p.0))
+    let g = goal.at.move_in_turn-requires c in (
+      p.0,
+      p.1,
+      p.2,
+      some g.Start,
+      moves g.Then-is_moving,
+      omega (arith, whole g.Then-n-gt0),
+      omega (arith, long g.Start, size-most p.0),
+    )
 
 pub returns-then-is_moving : goal.returns-then-is_moving
 returns-then-is_moving c =

@@ -25,12 +25,11 @@ returns-then-not-r c =
 
 pub loop-s-preserved : goal.loop-s-preserved
 unfolding limit_of element_of row_order
-loop-s-preserved c =
-    (
-      omega arith,
-      row_more c.requires.0 c.loop-s-test.true c.loop-s.invariant.1 (turn (goal.at.loop-s-preserved c).In-loop-s)
-          c.apply_upper_row-r.ensures (not-false _ c.if-not-r.false),
-    )
+loop-s-preserved c = (
+  omega arith,
+  row_more c.requires.0 c.loop-s-test.true c.loop-s.invariant.1 (turn (goal.at.loop-s-preserved c).In-loop-s)
+      c.apply_upper_row-r.ensures (not-false _ c.if-not-r.false),
+)
 
 pub returns : goal.returns
 returns c =

@@ -18,13 +18,13 @@ unfolding plan_of joint
 two c = rw c.in-Joint.is at c.requires
 
 pub count_at-requires : goal.count_at-requires
-count_at-requires c =     order-counts (accepted-read _ (one (goal.at.count_at-requires c).In-Line))
+count_at-requires c = order-counts (accepted-read _ (one (goal.at.count_at-requires c).In-Line))
 
 pub count_at-requires-in-Joint : goal.count_at-requires-in-Joint
-count_at-requires-in-Joint c =     order-counts (matched _ _ (two (goal.at.count_at-requires-in-Joint c).In-Joint)).column
+count_at-requires-in-Joint c = order-counts (matched _ _ (two (goal.at.count_at-requires-in-Joint c).In-Joint)).column
 
 pub count_at-requires-in-Joint-2 : goal.count_at-requires-in-Joint-2
-count_at-requires-in-Joint-2 c =     order-counts (matched _ _ (two (goal.at.count_at-requires-in-Joint-2 c).In-Joint)).row
+count_at-requires-in-Joint-2 c = order-counts (matched _ _ (two (goal.at.count_at-requires-in-Joint-2 c).In-Joint)).row
 
 pub overflow_mul-result : goal.overflow_mul-result
 overflow_mul-result c =

@@ -10,7 +10,7 @@ width : (a n : ℕ) → a + n - a ≡ n
 width a n = omega arith
 
 pub loop-k-init : goal.loop-k-init
-loop-k-init c =     (omega arith, refl, refl, refl, none_done _ _ _ _ _)
+loop-k-init c = (omega arith, refl, refl, refl, none_done _ _ _ _ _)
 
 pub loop-k-preserved : goal.loop-k-preserved
 loop-k-preserved c =
