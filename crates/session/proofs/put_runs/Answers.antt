@@ -11,6 +11,6 @@ returns-then-there-ne0 c =
 
 pub returns : goal.returns
 returns c =
-    let s = c.before.args in
-    wrote_as (wrote_then c.put-reply.ensures c.put_afterwards.ensures)
-    (ran-goes s.s.now s.x.now s.y.now s.z.now c.forward.ensures c.if1.false)
+    let s = c.args in
+    wrote_as (wrote_then c.put_reply-i.ensures c.put_afterwards.ensures)
+    (ran-goes s.s.now s.x.now s.y.now s.z.now c.forward-there.ensures c.if-there-ne0.false)

@@ -5,28 +5,12 @@ use Rattle.printing.specs.Writing.{wrote_as}
 use Rattle.rules.specs.declared.Answer.{Answer}
 use Rattle.session.specs.Inputs.{Counted, counted-by, session-refused, session-runs, session-parts}
 use Rattle.session.proofs.put_session.Goals as goal
-use Rattle.session.proofs.put_session.Goals.{After-block_at-e, Else-a-ne0}
+use Rattle.session.proofs.put_session.Goals.{Else-a-ne0}
 
 -- The count's refusal, or the runs on the parts of the numbers, which lie inside.
 counted : (c : Else-a-ne0) → Counted c.args.v.now
 counted c =
     counted-by c.args.v.now (ap (λ (a : Answer). a.number) (sym c.check_count-a.ensures) ∙ c.if-a-ne0.false)
-
-record Inside (e : ℕ) (v y z : List ℤ) : Type 0 where
-  v-long : e ≤ length v
-  y-long : e ≤ length y
-  z-long : e ≤ length z
-
-inside : (c : After-block_at-e)
-    → Inside c.block_at-e.result c.args.v.now
-    c.args.y.now c.args.z.now
-inside c =
-    let h = (counted c.before).inside in
-    record {
-      v-long = omega (arith, c.block_at-e.ensures);
-      y-long = omega (arith, c.block_at-e.ensures, ap length c.requires.0);
-      z-long = omega (arith, c.block_at-e.ensures, ap length c.requires.1);
-    }
 
 pub returns-then-a-ne0 : goal.returns-then-a-ne0
 returns-then-a-ne0 c =
@@ -38,14 +22,33 @@ returns-then-a-ne0 c =
 pub block_at-e-requires : goal.block_at-e-requires
 block_at-e-requires c = (counted (goal.at.block_at-e-requires c).Else-a-ne0).natural
 
+pub slice_bounds-put_runs-end : goal.slice_bounds-put_runs-end
+slice_bounds-put_runs-end c =
+    let h = (counted (goal.at.slice_bounds-put_runs-end c).Else-a-ne0).inside in omega (arith, c.block_at-e.ensures)
+
+pub slice_bounds-put_runs-start-2 : goal.slice_bounds-put_runs-start-2
+slice_bounds-put_runs-start-2 c =
+    let h = (counted (goal.at.slice_bounds-put_runs-start-2 c).Else-a-ne0).inside in omega (arith, c.block_at-e.ensures)
+
+pub slice_bounds-put_runs-start-3 : goal.slice_bounds-put_runs-start-3
+slice_bounds-put_runs-start-3 c =
+    let h = (counted (goal.at.slice_bounds-put_runs-start-3 c).Else-a-ne0).inside in omega (arith, c.block_at-e.ensures, ap length c.requires.0)
+
+pub slice_bounds-put_runs-start-4 : goal.slice_bounds-put_runs-start-4
+slice_bounds-put_runs-start-4 c =
+    let h = (counted (goal.at.slice_bounds-put_runs-start-4 c).Else-a-ne0).inside in omega (arith, c.block_at-e.ensures, ap length c.requires.1)
+
 pub slice_bounds-put_runs-count-2 : goal.slice_bounds-put_runs-count-2
-slice_bounds-put_runs-count-2 c = let h = inside (goal.at.slice_bounds-put_runs-count-2 c).After-block_at-e in search rules
+slice_bounds-put_runs-count-2 c =
+    let h = (counted (goal.at.slice_bounds-put_runs-count-2 c).Else-a-ne0).inside in omega (arith, c.block_at-e.ensures)
 
 pub slice_bounds-put_runs-count-3 : goal.slice_bounds-put_runs-count-3
-slice_bounds-put_runs-count-3 c = let h = inside (goal.at.slice_bounds-put_runs-count-3 c).After-block_at-e in search rules
+slice_bounds-put_runs-count-3 c =
+    let h = (counted (goal.at.slice_bounds-put_runs-count-3 c).Else-a-ne0).inside in omega (arith, c.block_at-e.ensures, ap length c.requires.0)
 
 pub slice_bounds-put_runs-count-4 : goal.slice_bounds-put_runs-count-4
-slice_bounds-put_runs-count-4 c = let h = inside (goal.at.slice_bounds-put_runs-count-4 c).After-block_at-e in search rules
+slice_bounds-put_runs-count-4 c =
+    let h = (counted (goal.at.slice_bounds-put_runs-count-4 c).Else-a-ne0).inside in omega (arith, c.block_at-e.ensures, ap length c.requires.1)
 
 pub returns : goal.returns
 returns c =
