@@ -10,7 +10,6 @@ use native.Mathlib.Omega.{arith}
 use Rattle.rules.specs.declared.Rule.{Rule}
 use Rattle.rules.specs.declared.Kind.TheVariants.{Lower, Upper, Single}
 use Rattle.rules.specs.Numbers.{at}
-use Rattle.rules.specs.Shapes.{order}
 use Rattle.rules.specs.GoodStages.{Permutes}
 use Rattle.rules.proofs.Laws.SoundFactors.{same-permutes}
 use Rattle.rules.proofs.Laws.Rectangles.{row_below, col-below, row-of, col-of, pair-permutes}

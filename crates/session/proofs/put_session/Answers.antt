@@ -1,5 +1,5 @@
 -- The count's refusal, or the runs on the parts of the numbers, which lie inside.
-use Rattle.std.proofs.Common.{List, ◌≡◌, sym, ap, ◌∙◌, ℕ, ◌≤◌, arith, ℤ, length, rules}
+use Rattle.std.proofs.Common.{◌≡◌, sym, ap, ◌∙◌, arith, length}
 use Rattle.printing.specs.Program.{counts, refusal}
 use Rattle.printing.specs.Writing.{wrote_as}
 use Rattle.rules.specs.declared.Answer.{Answer}

@@ -6,7 +6,7 @@ use Rattle.laws.specs.Accepted.{accepted-order, order-counts, count-counts}
 use Rattle.passrun.specs.BlockRuns.{one_size, one_lines, OneDone}
 use Rattle.passrun.specs.EndLaws.{ran-is, ends-refused, ends-done, ends_at}
 use Rattle.passrun.specs.Laid.{laid}
-use Rattle.passrun.specs.OneLaws.{one-done, one-small, one-named}
+use Rattle.passrun.specs.OneLaws.{one-done, one-named}
 use Rattle.rules.specs.Numbers.{count}
 use Rattle.passrun.proofs.block.run_one.Goals as goal
 use Rattle.passrun.proofs.block.run_one.Goals.{After-run_one_pass-r, After-store}

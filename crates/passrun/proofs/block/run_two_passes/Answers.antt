@@ -1,5 +1,5 @@
 -- The first pass; refused there (`ended-first`), or through the second (`ended-second`).
-use Rattle.std.proofs.Common.{true, false, ◌≡◌, refl, sym, ap, ◌∙◌, le_refl, arith, ℕ, ◌+◌}
+use Rattle.std.proofs.Common.{false, ◌≡◌, refl, sym, ap, ◌∙◌, le_refl, arith, ℕ, ◌+◌}
 use borrow.Author.Tests.{not-true, not-false}
 use Rattle.factor.specs.declared.run.Outcome.{Outcome}
 use Rattle.laws.specs.Accepted.{accepted-order, accepted-count, order-counts, count-counts}
