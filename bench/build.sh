@@ -2,15 +2,14 @@
 # shellcheck shell=bash
 # shellcheck disable=SC2034 # some of these only one of the two reads
 cd "$(dirname "$(readlink -f "${BASH_SOURCE[0]}")")/.." || exit
-machine=$(uname -m)
 kit=${RATTLE_HOME:-$(dirname "$(dirname "$(readlink -f "$(command -v rt)")")")}
-tools=$kit/on/$machine/toolchain lib=$kit/on/$machine/toolchain/lib
+tools=$kit/toolchain lib=$kit/toolchain/lib
 room=$PWD/target/bench x86=(--target=x86_64-unknown-linux-gnu -march=x86-64)
 twins=(check element line rectangle pass)
 mkdir -p "$room"
 
-archive() { # KIT: target/staticlib/libbench.a, made over that kit
-  RATTLE_HOME=$1 rt staticlib bench >"$room/rt.log" 2>&1 || { cat "$room/rt.log"; exit 1; }
+archive() { # crates/bench/out/libbench.a
+  (cd crates/bench && rt lib) >"$room/rt.log" 2>&1 || { cat "$room/rt.log"; exit 1; }
 }
 
 c() { # WORDS: the kit's clang over C; where the order is no literal it cannot unroll, and need not say so
@@ -26,13 +25,12 @@ program() { # NAME MORE: target/bench/NAME, of bench/NAME.c, what it needs more,
     objects+=("$room/$s.o")
   done
   "$tools/bin/ld.lld" -pie -z now -dynamic-linker "$lib/ld-linux-x86-64.so.2" -rpath "$lib" -o "$room/$1" \
-    "$lib/Scrt1.o" "$lib/crti.o" "$lib/crtbeginS.o" "${objects[@]}" target/staticlib/libbench.a \
+    "$lib/Scrt1.o" "$lib/crti.o" "$lib/crtbeginS.o" "${objects[@]}" crates/bench/out/libbench.a \
     "$lib/libc.so.6" "$lib/libc_nonshared.a" "$lib/libgcc.a" "$lib/ld-linux-x86-64.so.2" "$lib/crtendS.o" "$lib/crtn.o"
 }
 
-start() { # NAME WORDS: that program, under the kit's emulator where the machine needs it
+start() { # NAME WORDS: that program
   local name=$1
   shift
-  [ "$machine" = x86_64 ] || exec "$tools/bin/qemu-x86_64" "$lib/ld-linux-x86-64.so.2" --library-path "$lib" "$room/$name" "$@"
   exec "$room/$name" "$@"
 }

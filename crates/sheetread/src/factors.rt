@@ -24,7 +24,7 @@ pub fn smaller(a: usize, b: usize) -> usize
     if a <= b { a } else { b }
 }
 
-// The number at i as a count. `order-counts`, `count-counts`, `kind-counts`, `row_Counts` and `place-counts` give what is
+// The number at i as a count. `order-counts`, `count-counts`, `kind-counts`, `row_counts` and `place-counts` give what is
 // required.
 pub fn count_at(sheet: &[i32], i: usize) -> usize
     requires { Counts sheet.now i }
