@@ -8,7 +8,6 @@ use Rattle.rules.specs.Calls.{Plan, line}
 use Rattle.line.proofs.call_by.Goals as goal
 use Rattle.line.proofs.call_by.Goals.{Start}
 
--- The checks refuse (`checks-refuse`), or nothing is left but the run (`run-is-left`).
 -- the plan that is called
 abbrev P : Start → Plan
 P s = line s.args.s.now

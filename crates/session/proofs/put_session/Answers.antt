@@ -7,7 +7,6 @@ use Rattle.session.specs.Inputs.{Counted, counted-by, session-refused, session-r
 use Rattle.session.proofs.put_session.Goals as goal
 use Rattle.session.proofs.put_session.Goals.{Else-a-ne0}
 
--- The count's refusal, or the runs on the parts of the numbers, which lie inside.
 counted : (c : Else-a-ne0) → Counted c.args.v.now
 counted c =
     counted-by c.args.v.now (ap (λ (a : Answer). a.number) (sym c.check_count-a.ensures) ∙ c.if-a-ne0.false)

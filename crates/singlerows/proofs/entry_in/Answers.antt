@@ -5,7 +5,6 @@ use Rattle.whole.specs.Machine.{reads}
 use Rattle.singlerows.proofs.entry_in.Goals as goal
 use Rattle.singlerows.proofs.entry_in.Goals.{Else-j-q-2, Then-j-q}
 
--- By the side of the row's own column on which it stands (`entry-left`, `entry-own`, `entry-right`).
 -- left of it
 left : (c : Then-j-q) → c.args.f.entries + c.args.j < length c.args.row.now
 left c =

@@ -8,7 +8,6 @@ use Rattle.whole.specs.Machine.{within-le, within-pos, within-+, within-shr, fit
 use Rattle.factor.proofs.rounding.round_line.Goals as goal
 use Rattle.factor.proofs.rounding.round_line.Goals.{After-lift-a, Start}
 
--- Something is added and the floor is taken (`rounds-as`).
 -- the floor, read back from its bits
 floor : (s : Start) → to_z w64 (of_z w64 (shr_z (to_z w64 (of_z w64 s.args.s)) unit)) ≡ shr_z s.args.s unit
 floor s = rw (to_z-of_z s.ranges.s) (reads w64 (within-shr unit s.requires) tt)

@@ -8,7 +8,6 @@ use Rattle.whole.specs.Machine.{within-le, within-pos, within-+, within--, withi
 use Rattle.factor.proofs.rounding.round_past.Goals as goal
 use Rattle.factor.proofs.rounding.round_past.Goals.{After-lift-a, Start}
 
--- Something is added and the floor is taken (`rounds-past`).
 -- the floor, and what it is without k, read back from their bits
 floor : (s : Start) → to_z w64 (of_z w64 (shr_z (to_z w64 (of_z w64 s.args.s)) unit²)) ≡ shr_z s.args.s unit²
 floor s = rw (to_z-of_z s.ranges.s) (reads w64 (within-shr unit² s.requires.0) tt)

@@ -4,7 +4,6 @@ use Rattle.factor.specs.Rounding.{sign_below}
 use Rattle.factor.proofs.rounding.undone.Goals as goal
 use Rattle.factor.proofs.rounding.undone.Goals.{Start, Then-d-lt0}
 
--- By the sign's test (`sign_below`, `sign_above`).
 -- y - q, read back from its bits
 value :
     (s : Start) →

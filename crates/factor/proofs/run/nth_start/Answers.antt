@@ -7,7 +7,6 @@ use Rattle.rules.specs.Numbers.{count}
 use Rattle.factor.proofs.run.nth_start.Goals as goal
 use Rattle.factor.proofs.run.nth_start.Goals.{After-nth_stage}
 
--- The table's entry is the start of that factor, which stands in the sheet.
 pub count_at-requires : goal.count_at-requires
 count_at-requires c = count-counts c.requires.0
 

@@ -9,7 +9,6 @@ use Rattle.whole.specs.Stated.{Sign}
 use Rattle.joint.proofs.elements.with_diagonal.Goals as goal
 use Rattle.joint.proofs.elements.with_diagonal.Goals.{After-turned}
 
--- A sign turns a number within its bound, and the sum is far from 64 bits.
 small : {d w : ℤ} → Sign d → Within most_column w → Within most_column (d *ℤ w)
 small g h = within-le {A = 1 * most_column} (omega arith) (within-* (sign-within g) h)
 

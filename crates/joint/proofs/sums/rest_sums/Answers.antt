@@ -3,7 +3,6 @@ use Rattle.std.proofs.Common.{◌∙◌}
 use Rattle.joint.specs.Sums.{above, below, rest-rows}
 use Rattle.joint.proofs.sums.rest_sums.Goals as goal
 
--- The rows above, then the rows below (`rest-rows`).
 pub add_rows-requires : goal.add_rows-requires
 add_rows-requires c = rw c.requires.3 (above c.requires.0 c.requires.1 c.requires.2)
 

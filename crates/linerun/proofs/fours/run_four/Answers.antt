@@ -7,7 +7,6 @@ use Rattle.rules.specs.Numbers.{bound, count}
 use Rattle.linerun.proofs.fours.run_four.Goals as goal
 use Rattle.linerun.proofs.fours.run_four.Goals.{Else-not-is_four}
 
--- The tests in turn, then the run of the block (`ran-is`).
 pub count_at-requires : goal.count_at-requires
 count_at-requires c = order-counts c.requires.0
 

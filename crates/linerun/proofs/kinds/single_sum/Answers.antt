@@ -11,7 +11,6 @@ use Rattle.whole.specs.Machine.{back, within-le}
 use Rattle.linerun.proofs.kinds.single_sum.Goals as goal
 use Rattle.linerun.proofs.kinds.single_sum.Goals.{After-row_sum}
 
--- Only one row has entries (`single-none`); its sum is small (`row_small`), so it and its rounding fit 64 bits.
 pub returns-then-m-f : goal.returns-then-m-f
 returns-then-m-f c =
     sym (single-none (rule_by c.args.down c.args.even) c.args.sheet.now c.args.f c.args.x.now c.args.m

@@ -13,7 +13,6 @@ use Rattle.rules.specs.declared.Kind.TheVariants.{Permutation}
 use Rattle.linerun.proofs.stages.run_stage.Goals as goal
 use Rattle.linerun.proofs.stages.run_stage.Goals.{Else-is_move, Start, Then-is_move}
 
--- A permutation and a factor with weights are each the document's stage (`moves-are`; `apply-is`, `undo-is`, `allow-is`).
 len : (s : Start) → length s.args.x ≡ 16
 len s = search rules
 

@@ -3,7 +3,6 @@ use Rattle.factor.specs.Tasks.{stage-below}
 use Rattle.laws.specs.Accepted.{order-counts}
 use Rattle.rectanglerun.proofs.ends.is_moving.Goals as goal
 
--- The kind of the layout is that of the factor.
 pub count_at-n-requires : goal.count_at-n-requires
 count_at-n-requires c = order-counts c.requires.0
 

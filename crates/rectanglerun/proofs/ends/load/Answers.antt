@@ -8,7 +8,6 @@ use Rattle.rules.specs.Numbers.{count}
 use Rattle.rectanglerun.proofs.ends.load.Goals as goal
 use Rattle.rectanglerun.proofs.ends.load.Goals.{Start, Then-is_moving, Then-n-gt0}
 
--- The copy in with the first stage is `loads-moved`, without it `loads-copied`.
 -- there is a first stage
 some : (s : Start) → 0 < count s.args.col.now 1
 some s = (accepted-count s.requires.0.column).least

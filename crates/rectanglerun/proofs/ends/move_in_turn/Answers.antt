@@ -11,7 +11,6 @@ use Rattle.rules.specs.Answers.{start}
 use Rattle.rectanglerun.proofs.ends.move_in_turn.Goals as goal
 use Rattle.rectanglerun.proofs.ends.move_in_turn.Goals.{After-nth_start-j}
 
--- The places are those of the factors in turn (`column-places`, `row-places`).
 pub count_at-n1-requires : goal.count_at-n1-requires
 count_at-n1-requires c = order-counts c.requires.0.column
 

@@ -7,7 +7,6 @@ use Rattle.rules.specs.Numbers.{count}
 use Rattle.rectanglerun.proofs.ends.store.Goals as goal
 use Rattle.rectanglerun.proofs.ends.store.Goals.{Then-t-many}
 
--- The copy out with the last stage is `stores-moved`, after it `stores-copied`.
 pub count_at-many-requires : goal.count_at-many-requires
 count_at-many-requires c = count-counts c.requires.0.column
 

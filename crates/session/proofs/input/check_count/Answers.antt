@@ -7,7 +7,6 @@ use Rattle.session.specs.Inputs.{counts-below, counts-beyond, counts-fine}
 use Rattle.session.proofs.input.check_count.Goals as goal
 use Rattle.session.proofs.input.check_count.Goals.{Else-first-lt0}
 
--- The three answers of the definition.
 natural : (c : Else-first-lt0) → T (non_neg (at c.args.v.now 0))
 natural c =
     let f = c.first in

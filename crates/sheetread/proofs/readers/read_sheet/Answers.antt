@@ -8,7 +8,6 @@ use Rattle.rules.specs.declared.Mark.{Mark}
 use Rattle.sheetread.proofs.readers.read_sheet.Goals as goal
 use Rattle.sheetread.proofs.readers.read_sheet.Goals.{After-read_factors-r}
 
--- The head; if it has no fault the factors; then the end. Assumes nothing.
 headed-by : {s : List ℤ} {r : Mark} → r ≡ head s → r.number ≡ 0 → Headed s
 headed-by {s} e h = headed s (ap (λ (x : Mark). x.number) (sym e) ∙ h)
 

@@ -10,7 +10,6 @@ use Rattle.whole.specs.Machine.{reads, back, within-le}
 use Rattle.trianglerows.proofs.applied.lower_total.Goals as goal
 use Rattle.trianglerows.proofs.applied.lower_total.Goals.{After-sign_at, After-wide_sum, Start}
 
--- One run of entries is all of them (`lower-entries`).
 -- the entries of the row, and the sums that they meet
 run : (s : Start) → Wide s.args.row.now s.args.p s.args.v.now 0 s.args.j
 run s =

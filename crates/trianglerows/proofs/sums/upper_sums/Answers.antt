@@ -8,7 +8,6 @@ use Rattle.whole.specs.Machine.{back}
 use Rattle.trianglerows.proofs.sums.upper_sums.Goals as goal
 use Rattle.trianglerows.proofs.sums.upper_sums.Goals.{After-before_upper, After-diagonal_of, After-sign_at, Start}
 
--- The entries of the row are as the sums ask (`upper-side`). With the row's own numbers they make its sums (`with-own`).
 -- the row lies in the block
 room : (s : Start) → s.args.i * s.args.n + s.args.n ≤ 256
 room s = row_room s.requires.0.0.order s.requires.0.2 s.requires.0.1
