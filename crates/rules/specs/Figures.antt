@@ -27,7 +27,7 @@ use Rattle.rules.specs.Calls.{column_pass, row_pass}
 -- what a case shows, and what document 01 prints for it
 pub data Shown : Type 0 where
   answer-of : Answer → Shown
-  numbers_of_lem : Reply ℤ → Shown
+  numbers_of : Reply ℤ → Shown
   bytes-of : Reply ℕ → Shown
   bytes : List ℕ → Shown
   strip-of : StripReply → Shown
@@ -37,7 +37,7 @@ pub record Figure : Type 0 where
   pub printed : Shown
 
 abbrev pub gives : Reply ℤ → Answer → List ℤ → Figure
-gives r a v = record { found = numbers_of_lem r; printed = numbers_of_lem (record { answer = a; memory = v }) }
+gives r a v = record { found = numbers_of r; printed = numbers_of (record { answer = a; memory = v }) }
 
 abbrev pub spells : Reply ℕ → Answer → List ℕ → Figure
 spells r a l = record { found = bytes-of r; printed = bytes-of (record { answer = a; memory = l }) }

@@ -171,7 +171,7 @@ module _ (rule : Rule) where
   length-allow N (move S p) v = length-fill N _ v
   length-allow N (weigh S d w o) v = length-fill N _ v
 
-  -- a rounding's error times D is within S-as-D times the share, or 0 where every weight is a multiple of S
+  -- a rounding's error times D is within S·D times the share, or 0 where every weight is a multiple of S
   rounding-near : (N S D : ℕ) (u : ℕ → ℤ) (v : List ℤ) → 0 < S →
       Near (S * D) (pos D *ℤ ((pos S *ℤ R rule S (weighed N u v)) -ℤ weighed N u v))
       (cond (multiples S N u) (pos 0) (pos (share rule)))
