@@ -1,4 +1,4 @@
-// The calls of the library in the calling form of C, for `bench/`. Each is its call and nothing else.
+// The calls of the library in the calling form of C, for `bench/`. Each is its call, its result an answer, and nothing else.
 #![tactic(auto)]
 
 mod sheets; // checks of sheets, and the rest of a faulty one

@@ -8,7 +8,7 @@ pub extern "C" fn bench_forward(rule: u32, s: &[i32], x: &[i32], y: &mut [i32]) 
     ensures { Gives result y.new (ruled rule forward_call (line s.now) x.now
         y.old) }
 {
-    line::forward(rule, s, x, y)
+    Answer::from(line::forward(rule, s, x, y))
 }
 
 #[unsafe(no_mangle)]
@@ -16,12 +16,12 @@ pub extern "C" fn bench_inverse(rule: u32, s: &[i32], x: &[i32], y: &mut [i32]) 
     ensures { Gives result y.new (ruled rule inverse_call (line s.now) x.now
         y.old) }
 {
-    line::inverse(rule, s, x, y)
+    Answer::from(line::inverse(rule, s, x, y))
 }
 
 #[unsafe(no_mangle)]
 pub extern "C" fn bench_allowance(rule: u32, s: &[i32], y: &mut [i32]) -> Answer
     ensures { Gives result y.new (ruled rule allowance_call (line s.now) y.old) }
 {
-    line::allowance(rule, s, y)
+    Answer::from(line::allowance(rule, s, y))
 }

@@ -14,7 +14,7 @@ pub extern "C" fn bench_two_pass_forward(
     ensures { Gives result y.new
         (ruled rule forward_call (two_pass c.now r.now) x.now y.old) }
 {
-    twopass::forward(rule, c, r, x, y)
+    Answer::from(twopass::forward(rule, c, r, x, y))
 }
 
 #[unsafe(no_mangle)]
@@ -28,7 +28,7 @@ pub extern "C" fn bench_two_pass_inverse(
     ensures { Gives result y.new
         (ruled rule inverse_call (two_pass c.now r.now) x.now y.old) }
 {
-    twopass::inverse(rule, c, r, x, y)
+    Answer::from(twopass::inverse(rule, c, r, x, y))
 }
 
 #[unsafe(no_mangle)]
@@ -36,7 +36,7 @@ pub extern "C" fn bench_two_pass_allowance(rule: u32, c: &[i32], r: &[i32], y: &
     ensures { Gives result y.new (ruled rule allowance_call (two_pass c.now r.now)
         y.old) }
 {
-    twopass::allowance(rule, c, r, y)
+    Answer::from(twopass::allowance(rule, c, r, y))
 }
 
 #[unsafe(no_mangle)]
@@ -50,7 +50,7 @@ pub extern "C" fn bench_column_forward(
     ensures { Gives result y.new
         (ruled rule forward_call (column_pass s.now other) x.now y.old) }
 {
-    twopass::column_forward(rule, s, other, x, y)
+    Answer::from(twopass::column_forward(rule, s, other, x, y))
 }
 
 #[unsafe(no_mangle)]
@@ -64,7 +64,7 @@ pub extern "C" fn bench_column_inverse(
     ensures { Gives result y.new
         (ruled rule inverse_call (column_pass s.now other) x.now y.old) }
 {
-    twopass::column_inverse(rule, s, other, x, y)
+    Answer::from(twopass::column_inverse(rule, s, other, x, y))
 }
 
 #[unsafe(no_mangle)]
@@ -78,7 +78,7 @@ pub extern "C" fn bench_row_forward(
     ensures { Gives result y.new
         (ruled rule forward_call (row_pass s.now other) x.now y.old) }
 {
-    twopass::row_forward(rule, s, other, x, y)
+    Answer::from(twopass::row_forward(rule, s, other, x, y))
 }
 
 #[unsafe(no_mangle)]
@@ -92,5 +92,5 @@ pub extern "C" fn bench_row_inverse(
     ensures { Gives result y.new
         (ruled rule inverse_call (row_pass s.now other) x.now y.old) }
 {
-    twopass::row_inverse(rule, s, other, x, y)
+    Answer::from(twopass::row_inverse(rule, s, other, x, y))
 }

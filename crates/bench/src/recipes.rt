@@ -7,26 +7,26 @@ use rules::Answer;
 pub extern "C" fn bench_read(bytes: &[u8], out: &mut [i32]) -> Answer
     ensures { Gives result out.new (read bytes.now out.old) }
 {
-    recipe::read(bytes, out)
+    Answer::from(recipe::read(bytes, out))
 }
 
 #[unsafe(no_mangle)]
 pub extern "C" fn bench_write(s: &[i32], out: &mut [u8]) -> Answer
     ensures { Gives result out.new (write s.now out.old) }
 {
-    recipe::write(s, out)
+    Answer::from(recipe::write(s, out))
 }
 
 #[unsafe(no_mangle)]
 pub extern "C" fn bench_built_in(out: &mut [i32]) -> Answer
     ensures { Gives result out.new (write_table built_in out.old) }
 {
-    recipe::built_in(out)
+    Answer::from(recipe::built_in(out))
 }
 
 #[unsafe(no_mangle)]
 pub extern "C" fn bench_first_printing(out: &mut [i32]) -> Answer
     ensures { Gives result out.new (write_table first_printing out.old) }
 {
-    recipe::first_printing(out)
+    Answer::from(recipe::first_printing(out))
 }

@@ -14,7 +14,7 @@ pub extern "C" fn bench_rectangle_forward(
     ensures { Gives result y.new
         (ruled rule forward_call (joint c.now r.now) x.now y.old) }
 {
-    rectangle::forward(rule, c, r, x, y)
+    Answer::from(rectangle::forward(rule, c, r, x, y))
 }
 
 #[unsafe(no_mangle)]
@@ -28,7 +28,7 @@ pub extern "C" fn bench_rectangle_inverse(
     ensures { Gives result y.new
         (ruled rule inverse_call (joint c.now r.now) x.now y.old) }
 {
-    rectangle::inverse(rule, c, r, x, y)
+    Answer::from(rectangle::inverse(rule, c, r, x, y))
 }
 
 #[unsafe(no_mangle)]
@@ -41,5 +41,5 @@ pub extern "C" fn bench_rectangle_allowance(
     ensures { Gives result y.new (ruled rule allowance_call (joint c.now r.now)
         y.old) }
 {
-    rectangle::allowance(rule, c, r, y)
+    Answer::from(rectangle::allowance(rule, c, r, y))
 }

@@ -9,14 +9,14 @@ use rules::Answer;
 pub extern "C" fn bench_check(s: &[i32]) -> Answer
     ensures { result ≡ checked s.now }
 {
-    sheet::check(s)
+    Answer::from(sheet::check(s))
 }
 
 #[unsafe(no_mangle)]
 pub extern "C" fn bench_check_pair(c: &[i32], r: &[i32]) -> Answer
     ensures { result ≡ pair_checked c.now r.now }
 {
-    sheet::check_pair(c, r)
+    Answer::from(sheet::check_pair(c, r))
 }
 
 // An exported function returns no reference, so this answers how long the part is.

@@ -15,7 +15,7 @@ pub extern "C" fn bench_strip_forward(
     ensures { GivesStrip result y.new bytes.new
         (ruled rule forward_strip (line s.now) x.now y.old bytes.old) }
 {
-    strip::line_forward(rule, s, x, y, bytes)
+    Answer::from(strip::line_forward(rule, s, x, y, bytes))
 }
 
 #[unsafe(no_mangle)]
@@ -29,7 +29,7 @@ pub extern "C" fn bench_strip_inverse(
     ensures { GivesStrip result y.new bytes.new
         (ruled rule inverse_strip (line s.now) x.now y.old bytes.old) }
 {
-    strip::line_inverse(rule, s, x, y, bytes)
+    Answer::from(strip::line_inverse(rule, s, x, y, bytes))
 }
 
 #[unsafe(no_mangle)]
@@ -45,7 +45,7 @@ pub extern "C" fn bench_rectangle_strip_forward(
         (ruled rule forward_strip (joint c.now r.now)
         x.now y.old bytes.old) }
 {
-    strip::joint_forward(rule, c, r, x, y, bytes)
+    Answer::from(strip::joint_forward(rule, c, r, x, y, bytes))
 }
 
 #[unsafe(no_mangle)]
@@ -61,5 +61,5 @@ pub extern "C" fn bench_rectangle_strip_inverse(
         (ruled rule inverse_strip (joint c.now r.now)
         x.now y.old bytes.old) }
 {
-    strip::joint_inverse(rule, c, r, x, y, bytes)
+    Answer::from(strip::joint_inverse(rule, c, r, x, y, bytes))
 }

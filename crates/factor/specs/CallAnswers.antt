@@ -1,16 +1,19 @@
 -- THE ANSWER OF A CALL in the turns that the code takes: the sheets, the lengths, then the run itself.
-use Rattle.std.specs.Prelude.{cond, List, ◌≡◌, refl, ℕ, eqb, ℤ, length}
+use Rattle.std.specs.Prelude.{cond, List, ◌≡◌, refl, ℕ, eqb, ℤ, length, Result, Ok}
 use Rattle.std.proofs.Math.Path.{sym, ap}
 use Rattle.std.proofs.Common.{◌∙◌, arith, eq-eqb, ne_eqb}
 use Rattle.std.proofs.Math.Decide.{ℕ_discrete}
 use Rattle.rules.specs.declared.Answer.{Answer}
+use Rattle.rules.specs.declared.Refusal.{Refusal}
 use Rattle.rules.specs.declared.Rule.{Rule}
 use Rattle.rules.specs.Stages.{run_forward, run_inverse}
 use Rattle.rules.specs.Answers.{accepted, refused, ◌or_else◌}
 use Rattle.rules.specs.Calls.{Gives, reply, Plan, sized, ran_answer, ran_memory, run_reply, forward_call, inverse_call, allowance_call}
 use Rattle.rules.specs.Calls.{rule_of, rule_checked, under, ruled}
+use Rattle.rules.specs.Results.{refused_for, answered}
 use Rattle.laws.specs.Accepted.{both-fine}
 use Rattle.laws.specs.AnswersInTurn.{answer-stops, answer-passes, in-turn, reply-stops, reply-passes, ran_reply}
+use Rattle.laws.specs.Results.{some-fault, ok-fine}
 use Rattle.factor.specs.declared.run.Task.{Task}
 use Rattle.factor.specs.declared.run.Task.TheVariants.{Forward, Inverse, Allowance}
 use Rattle.factor.specs.declared.run.Run.{Run}
@@ -127,6 +130,37 @@ module _ (k : ℕ) (task : Task) (p : Plan) (x y : List ℤ) (none : NoneLent ta
       let w = both-fine p.sheets _ z.1 in
       let l = lengths-fine task p.size (length x) (length y) w.1 in
       (w.0, l.0, l.1)
+
+-- ---- the same of what the checks gave back: a check that refuses ends the call at its `?`
+module _ (k : ℕ) (task : Task) (p : Plan) (x y : ℕ) where
+  pub rule-err : (d : Refusal) → rule_checked k ≡ refused_for d → refused_for d ≡ checks_of k task p x y
+  rule-err d e = rule-stops k task p x y (sym e) (some-fault d.fault)
+
+  module _ (fine : rule_checked k ≡ accepted) where
+    pub sheets-err : (d : Refusal) → refused_for d ≡ p.sheets → refused_for d ≡ checks_of k task p x y
+    sheets-err d e = sheets-stop k task p x y (sym fine) refl e (some-fault d.fault)
+
+    -- the check of the lengths, told by `check_lengths`, is the last
+    pub lengths-told : {T : Type 0} (l : Result T Refusal) → p.sheets.number ≡ 0 → answered l ≡ lengths_of task p.size x y →
+        answered l ≡ checks_of k task p x y
+    lengths-told l h f = lengths-left k task p x y (sym fine) refl refl h f
+
+module _ (k : ℕ) (task : Task) (p : Plan) (x y : List ℤ) (none : NoneLent task x) where
+  pub call-err : (d : Refusal) → refused_for d ≡ checks_of k task p (length x) (length y) →
+      Gives (refused_for d) y (ruled k (call_by task) p x y)
+  call-err d e = checks-refuse k task p x y none e (some-fault d.fault)
+
+  module _ {T : Type 0} {l : Result T Refusal} {v : T} (e : answered l ≡ checks_of k task p (length x) (length y))
+      (h : l ≡ Ok v) where
+    pub call-fine : (p.sheets.number ≡ 0) × (length x ≡ inputs_of task p.size) × (length y ≡ p.size)
+    call-fine = checks-fine k task p x y none refl (ok-fine e h)
+
+    -- nothing is left but the run by the rule of that number
+    pub call-runs : {rule : Rule} → rule_of k ≡ rule →
+        ruled k (call_by task) p x y ≡ ran_reply (number_of task) (ran_by task rule p.size p.stages x) y
+    call-runs f =
+        run-is-left k task p x y none refl (ok-fine e h)
+        ∙ ap (λ (q : Rule). ran_reply (number_of task) (ran_by task q p.size p.stages x) y) f
 
 -- the single call of a block whose sheets and lengths are right is its run
 pub block-is-run :

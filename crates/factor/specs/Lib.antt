@@ -1,4 +1,5 @@
 pub mod Tasks
+pub mod Outcomes
 pub mod Layouts
 pub mod RowSums
 pub mod SumBounds

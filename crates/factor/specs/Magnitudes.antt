@@ -1,6 +1,9 @@
 -- THE ENTRIES OF A ROW IN AN ALLOWANCE: magnitudes, and the test for multiples of 4096. Definitions for the code.
-use Rattle.std.specs.Prelude.{Bool, true, false, cond, List, ◌≡◌, refl, ℕ, zero, suc, ◌+◌, ◌-◌, ◌*◌, ◌%◌, ◌≤◌, ◌<◌, eqb, ℤ, pos, negsuc, nat_abs, ◌-ℤ◌, length, replicate}
-use Rattle.std.proofs.Math.Path.{ap₂}
+use Rattle.std.specs.Prelude.{Bool, true, false, cond, List, ◌≡◌, refl, ℕ, zero, suc, ◌+◌, ◌*◌, ◌%◌, ◌≤◌, ◌<◌, eqb, ℤ, pos, negsuc, nat_abs, ◌-ℤ◌, length, replicate}
+use Rattle.std.specs.Prelude.{MatchBool}
+use Rattle.std.specs.List.{AllWithin, HoldsAt, between}
+use Rattle.std.proofs.Math.Path.{ap₂, sym}
+use Rattle.std.proofs.lemmas.List.Edits.{length-between, get_or-between}
 use native.Mathlib.Omega.{arith}
 use Rattle.std.proofs.Common.{ltb-true}
 use Rattle.std.proofs.Math.IntN.{◌+ℤ◌}
@@ -32,21 +35,51 @@ unfoldable pub whole : List ℤ → ℕ → ℕ → Bool
 whole a p zero = true
 whole a p (suc m) = cond (eqb (nat_abs (at a p) % unit) 0) (whole a (p + 1) m) false
 
--- ---- for the loop of `whole`: j of m numbers passed
-pub whole-end : (a : List ℤ) (p m j : ℕ) → m ≤ j → whole a (p + j) (m - j) ≡ true
+-- ---- each of m numbers is one, or one is none
+pub whole-all : (a : List ℤ) (p m : ℕ) → ((j : ℕ) → j < m → eqb (nat_abs (at a (p + j)) % unit) 0 ≡ true) → whole a p m ≡ true
 unfolding whole
-whole-end a p m j l = let e : m - j ≡ 0 = omega arith in rw e
+whole-all a p zero h = refl
+whole-all a p (suc m) h =
+    let e : p + 0 ≡ p = omega arith in
+    rw (rw e at (h 0 (omega arith)))
+    (whole-all a (p + 1) m (λ j l. let q : p + suc j ≡ p + 1 + j = omega arith in rw q at (h (suc j) (omega arith))))
 
-pub whole-on : (a : List ℤ) (p m j : ℕ) → j < m → eqb (nat_abs (at a (p + j)) % unit) 0 ≡ true →
-    whole a (p + j) (m - j) ≡ whole a (p + (j + 1)) (m - (j + 1))
+pub whole-none : (a : List ℤ) (p m j : ℕ) → j < m → eqb (nat_abs (at a (p + j)) % unit) 0 ≡ false → whole a p m ≡ false
 unfolding whole
-whole-on a p m j l h =
-    let e : m - j ≡ suc (m - (j + 1)) = omega arith in
-    let q : p + j + 1 ≡ p + (j + 1) = omega arith in rw (e, h, q)
+whole-none a p zero j l h = absurd (omega arith)
+whole-none a p (suc m) zero l h = let e : p + 0 ≡ p = omega arith in rw (rw e at h)
+whole-none a p (suc m) (suc j) l h =
+    let q : p + suc j ≡ p + 1 + j = omega arith in
+    rw (whole-none a (p + 1) m j (omega arith) (rw q at h)) (either (eqb (nat_abs (at a p) % unit) 0))
+  where
+    either : (b : Bool) → cond b false false ≡ false
+    either true = refl
+    either false = refl
 
-pub whole-stop : (a : List ℤ) (p m j : ℕ) → j < m → eqb (nat_abs (at a (p + j)) % unit) 0 ≡ false → whole a (p + j) (m - j) ≡ false
-unfolding whole
-whole-stop a p m j l h = let e : m - j ≡ suc (m - (j + 1)) = omega arith in rw (e, h)
+-- the test of each of the m numbers by itself
+pub whole-told :
+    (a : List ℤ) (p m : ℕ) {r : Bool} → p + m ≤ length a →
+    MatchBool r
+    (AllWithin (λ z. eqb (nat_abs z % unit) 0 ≡ true) (between p (p + m) a) 0 (length (between p (p + m) a)))
+    ((k : ℕ) × (k < length (between p (p + m) a)) × HoldsAt (λ z. eqb (nat_abs z % unit) 0 ≡ false) (between p (p + m) a) k) →
+    r ≡ whole a p m
+whole-told a p m {r} room h = go r h
+  where
+    many : length (between p (p + m) a) ≡ m
+    many = omega (arith, length-between a p (p + m) room)
+
+    go : (r : Bool) →
+        MatchBool r
+        (AllWithin (λ z. eqb (nat_abs z % unit) 0 ≡ true) (between p (p + m) a) 0 (length (between p (p + m) a)))
+        ((k : ℕ) × (k < length (between p (p + m) a))
+        × HoldsAt (λ z. eqb (nat_abs z % unit) 0 ≡ false) (between p (p + m) a) k) →
+        r ≡ whole a p m
+    go true h =
+        sym (whole-all a p m (λ j l.
+        rw (get_or-between a p (p + m) j (pos 0) (omega arith)) at (h j (pos 0) (omega arith) (omega (arith, many)))))
+    go false h =
+        let l : h.0 < m = omega (arith, many, h.1) in
+        sym (whole-none a p m h.0 l (rw (get_or-between a p (p + m) h.0 (pos 0) (omega arith)) at (h.2 (pos 0))))
 
 -- ---- a magnitude, by the sign
 pub below-zero : (z : ℤ) → lt_z z (pos 0) ≡ true → pos 0 -ℤ z ≡ pos (nat_abs z)

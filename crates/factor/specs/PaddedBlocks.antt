@@ -1,5 +1,5 @@
 -- A BLOCK IN ITS ROOM: its numbers at the front of an array, 0 behind them, and the reply to a run over that array.
-use Rattle.std.specs.Prelude.{true, ◌≡◌, refl, ℕ, zero, suc, ◌+◌, ◌-◌, ◌≤◌, ◌<◌, pos}
+use Rattle.std.specs.Prelude.{true, ◌≡◌, refl, ℕ, zero, suc, ◌+◌, ◌-◌, ◌≤◌, ◌<◌, pos, take, drop}
 use mathlib.Core.List.{List, ◌++◌}
 use Rattle.std.proofs.Math.Path.{sym}
 use Rattle.std.proofs.Common.{◌∙◌, ne_eqb, length-append, get_or-append-add, ext_get_or}
@@ -7,6 +7,7 @@ use Rattle.std.proofs.Math.Decide.{dec_lt}
 use native.Mathlib.Omega.{arith}
 use Rattle.std.proofs.Math.IntN.{ℤ}
 use Rattle.std.proofs.Math.ListN.{length, replicate, length-replicate, get_or-append}
+use Rattle.std.proofs.lemmas.List.{length-take-le, length-drop, get_or-take, get_or-drop}
 use Rattle.whole.specs.Diff.{Within}
 use Rattle.rules.specs.Numbers.{at}
 use Rattle.rules.specs.Stages.{Ran, done, beyond, fill, inside}
@@ -38,6 +39,22 @@ pub ended_is :
 unfolding ended padded_run reply ran_answer ran_memory
 ended_is k (done v) p y h = rw (store_is v p y (h v refl))
 ended_is k (beyond s e) p y h = rw (ne_eqb (suc k) 0 (λ z. omega arith))
+
+-- n numbers of one list, and what another has behind n
+pub front-filled : (n : ℕ) (x y : List ℤ) → n ≤ length x → n ≤ length y → take n x ++ drop n y ≡ fill n (at x) y
+front-filled n x y l m =
+    same-list n _ _ (omega (arith, front, length-append (take n x) (drop n y), length-drop n y, length-fill n (at x) y))
+    (λ k h. get_or-append (take n x) (drop n y) (pos 0) k (omega (arith, front)) ∙ get_or-take n x k (pos 0) h
+    ∙ sym (fill-at n (at x) y k h m))
+    (λ k h. past k h ∙ sym (fill-past n (at x) y k h))
+  where
+    front : length (take n x) ≡ n
+    front = length-take-le n x l
+
+    past : (k : ℕ) → n ≤ k → at (take n x ++ drop n y) k ≡ at y k
+    past k h =
+        let e : n + (k - n) ≡ k = omega arith in
+        let q = get_or-append-add (take n x) (drop n y) (k - n) (pos 0) ∙ get_or-drop n y (k - n) (pos 0) in rw (front, e) at q
 
 at-zeros : (n k : ℕ) → at (replicate n (pos 0)) k ≡ pos 0
 at-zeros zero k = refl

@@ -21,7 +21,7 @@ use Rattle.factor.specs.declared.run.Task.{Task}
 use Rattle.factor.specs.declared.run.Task.TheVariants.{Forward, Inverse, Allowance}
 use Rattle.factor.specs.declared.run.Run.{Run}
 use Rattle.factor.specs.SumBounds.{Bounded, bounded-le}
-use Rattle.factor.specs.Tasks.{limit_of, inputs_of, number_of, end_answer, in_order, stage_by, name_first, name_after, run_by}
+use Rattle.factor.specs.Tasks.{limit_of, inputs_of, number_of, in_order, stage_by, name_first, name_after, run_by}
 use Rattle.factor.specs.Tasks.{ran_by, ran}
 use Rattle.factor.specs.PaddedBlocks.{ended, ended_is, padding, padded_block, padded-bounded}
 
@@ -38,17 +38,12 @@ module _ {a : Answer} {m : List ℤ} {q : Reply ℤ} where
   pub given-asked : GivesAsked true a m q → Gives a m q
   given-asked g = (g.whole refl, g.memory)
 
--- how the code ends a block: the stage and the element stand in the pair
-pub noted : {number s e : ℕ} {pair : List ℕ} → pair ≡ s ∷ e ∷ [] → end_answer number false pair ≡ refused_at number 0 s e
-unfolding end_answer
-noted h = rw h
-
 -- the reply to a run that is refused, and to one that is done
 module _ {named : Bool} {ran : Ran} (number : ℕ) (y : List ℤ) where
-  pub ended-noted : {s k e : ℕ} {pair : List ℕ} → ran ≡ beyond s k → pair ≡ s ∷ e ∷ [] → (named ≡ true → ran ≡ beyond s e) →
-      GivesAsked named (end_answer number false pair) y (ended ran number y)
+  pub ended-noted : {s k e : ℕ} → ran ≡ beyond s k → (named ≡ true → ran ≡ beyond s e) →
+      GivesAsked named (refused_at number 0 s e) y (ended ran number y)
   unfolding ended
-  ended-noted h p n = rw (noted p) (record { number = rw h; memory = rw h; whole = λ z. rw (n z) })
+  ended-noted h n = record { number = rw h; memory = rw h; whole = λ z. rw (n z) }
 
   pub ended-done : {v z : List ℤ} {a : Answer} → ran ≡ done v → a ≡ accepted → z ≡ fill (length y) (at v) y →
       GivesAsked named a z (ended ran number y)

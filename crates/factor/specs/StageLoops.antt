@@ -4,7 +4,7 @@ use Rattle.std.proofs.Common.{sym, ap, ◌∙◌, arith}
 use Rattle.rules.specs.Stages.{Stage, Ran, done, beyond, inside, later, run}
 use Rattle.rules.proofs.Laws.Runs.{loop-step, loop-any, loop-refused, loop-here, loop-end}
 use Rattle.laws.specs.Tests.{apart}
-use Rattle.factor.specs.declared.run.Outcome.{Outcome}
+use Rattle.factor.specs.Outcomes.{Outcome}
 use Rattle.factor.specs.SumBounds.{Bounded, bounded-inside}
 use Rattle.factor.specs.Steps.{Step, step-no}
 

@@ -1,11 +1,12 @@
 -- WHAT A SUM ASKS: its numbers are there, and small enough for 64 bits.
-use Rattle.std.specs.Prelude.{List, Bool, true, false, ◌≡◌, refl, ℕ, zero, suc, ◌+◌, ◌-◌, ◌*◌, ◌/◌, ◌≤◌, ◌<◌, T, leb, ℤ, pos, negsuc, nat_abs, ◌-ℤ◌, ◌*ℤ◌, length, set, take, drop}
-use Rattle.std.proofs.Common.{sym, ap, ◌∙◌, le_trans, mul-le-mul_right, add-one, le-leb, leb-true, leb-false, length-drop, take_all}
+use Rattle.std.specs.Prelude.{List, [], ◌∷◌, ◌++◌, Bool, true, false, cond, ◌≡◌, refl, ℕ, zero, suc, ◌+◌, ◌-◌, ◌*◌, ◌/◌, ◌≤◌, ◌<◌, T, leb, ℤ, pos, negsuc, nat_abs, ◌-ℤ◌, ◌*ℤ◌, length, set, take, drop}
+use Rattle.std.proofs.Common.{length-append, get_or-append-add, le_refl, sym, ap, ◌∙◌, le_trans, mul-le-mul_right, add-one, le-leb, leb-true, leb-false, length-drop, take_all}
 use Rattle.std.proofs.Math.Path.{ap₂}
 use Rattle.std.proofs.Math.Decide.{ℕ_discrete, dec_lt}
 use native.Mathlib.Omega.{arith}
 use Rattle.std.proofs.lemmas.Bool.{lt-leb}
 use Rattle.std.proofs.Math.IntN.{◌+ℤ◌}
+use Rattle.std.proofs.Math.ListN.{get_or-append}
 use Rattle.std.proofs.Math.Seq.{set_out, get_or-drop}
 use Rattle.std.specs.Int.Signed.{non_neg, le_z, lt_z}
 use Rattle.whole.specs.Diff.{lia, given₁, Within}
@@ -30,6 +31,22 @@ pub record Bounded (most : ℕ) (x : List ℤ) : Type 0 where
 
 pub bounded-le : {a b : ℕ} {x : List ℤ} → a ≤ b → Bounded a x → Bounded b x
 bounded-le l h = record { small = λ k. within-le l (h.small k) }
+
+-- one number more at the end of a list
+inside-front : (most n : ℕ) (v w : List ℤ) → n ≤ length v → inside most n (v ++ w) ≡ inside most n v
+unfolding inside
+inside-front most zero v w l = refl
+inside-front most (suc n) v w l =
+    rw (get_or-append v w (pos 0) n (omega arith), inside-front most n v w (omega arith))
+
+pub inside-more : (most : ℕ) (v : List ℤ) (z : ℤ) →
+    inside most (length (v ++ z ∷ [])) (v ++ z ∷ []) ≡ cond (leb (nat_abs z) most) (inside most (length v) v) false
+unfolding inside
+inside-more most v z =
+    let e : length (v ++ z ∷ []) ≡ suc (length v) = omega (arith, length-append v (z ∷ [])) in
+    let q : length v + 0 ≡ length v = omega arith in
+    let last = rw q at (get_or-append-add v (z ∷ []) 0 (pos 0)) in
+    rw (e, last, inside-front most (length v) v (z ∷ []) (le_refl (length v)))
 
 -- m entries of a, and as many numbers of x: samples, coefficients or allowances, none beyond the larger of the two limits
 pub record Terms (a x : List ℤ) (m : ℕ) : Type 0 where

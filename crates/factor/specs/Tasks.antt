@@ -1,20 +1,14 @@
 -- THE THREE TASKS: what a run does by its task and its rule. Definitions for the code, over those of the document.
-use Rattle.std.specs.Prelude.{Bool, true, false, cond, List, reverse, ℕ, suc, ◌-◌, ◌≤◌, ◌<◌, ℤ, get_or}
+use Rattle.std.specs.Prelude.{Bool, true, false, cond, List, reverse, ℕ, suc, ◌-◌, ◌≤◌, ◌<◌, ℤ}
 use Rattle.std.proofs.Common.{arith}
-use Rattle.rules.specs.declared.Answer.{Answer}
 use Rattle.rules.specs.declared.Rule.{Rule}
 use Rattle.rules.specs.Numbers.{bound, most_allowance}
 use Rattle.rules.specs.Stages.{Stage, Ran, forward, undo, allow, inside, first_read, first_recovered, run}
 use Rattle.rules.specs.Stages.{run_forward, run_inverse, run_allowance}
-use Rattle.rules.specs.Answers.{accepted, refused_at}
-use Rattle.rules.specs.Calls.{Reply, Plan, rule_of, forward_call, inverse_call, allowance_call}
+use Rattle.rules.specs.Calls.{Reply, Plan, forward_call, inverse_call, allowance_call}
 use Rattle.factor.specs.declared.run.Task.{Task}
 use Rattle.factor.specs.declared.run.Task.TheVariants.{Forward, Inverse, Allowance}
 use Rattle.factor.specs.declared.run.Run.{Run}
-
--- a run by the rule of a number
-abbrev pub by_number : Task → ℕ → Run
-by_number task k = record { task = task; rule = rule_of k }
 
 -- whether numbers go back
 unfoldable pub is_inverse : Task → Bool
@@ -39,11 +33,6 @@ unfoldable pub number_of : Task → ℕ
 number_of Forward = 11
 number_of Inverse = 11
 number_of Allowance = 13
-
--- the answer to a run of a block as the code ends it: accepted, or refused at the stage and for the element of a pair
-unfoldable pub end_answer : ℕ → Bool → List ℕ → Answer
-end_answer number true pair = accepted
-end_answer number false pair = refused_at number 0 (get_or pair 0 0) (get_or pair 1 0)
 
 -- which of K stages comes after t others, and the stages in that order
 unfoldable pub nth_stage : Task → ℕ → ℕ → ℕ

@@ -9,7 +9,5 @@ pub fn copy_front(x: &[i32], y: &mut [i32], n: usize)
     requires { (n ≤ length x.now) × (n ≤ length y.old) }
     ensures { y.new ≡ fill n (at x.now) y.old }
 {
-    for k in 0..n {
-        y[k] = x[k];
-    }
+    y[..n].copy_from_slice(&x[..n]);
 }

@@ -1,5 +1,5 @@
 // The bound: of what is lent, stage 0, and of a number that goes into its block.
-ghost use Rattle.std.specs.Prelude.{◌≡◌, ◌<◌, T, nat_abs, length};
+ghost use Rattle.std.specs.Prelude.{◌≡◌, ◌<◌, T, nat_abs, length, is_ok};
 ghost use Rattle.std.specs.Int.Signed.{non_neg};
 ghost use Rattle.rules.specs.Numbers.{bound};
 ghost use Rattle.rules.specs.Stages.{inside};
@@ -20,22 +20,22 @@ pub fn wide(z: i32) -> i64
 pub fn is_inside(x: &[i32]) -> bool
     ensures { result ≡ inside bound (length x.now) x.now }
 {
-    let n = x.len();
-    let mut fine = true;
-    for k in 0..n {
-        fine = fine & is_within(wide(x[k]), Block::SAMPLE);
-    }
-    fine
+    x.iter()
+        .fold(true, |fine, z| fine & is_within(wide(*z), Block::SAMPLE))
 }
 
-// A number into place k of a block, if it lies between -most and most. Answers whether it does.
-pub fn keep(z: i64, most: i32, x: &mut [i32], k: usize) -> bool
+// A number that lies beyond the bound, or an allowance beyond its limit.
+#[derive(Clone, Copy, Debug, PartialEq, Eq)]
+pub struct Beyond {}
+
+// A number into place k of a block, if it lies between -most and most.
+pub fn keep(z: i64, most: i32, x: &mut [i32], k: usize) -> Result<(), Beyond>
     requires { T (non_neg most) × (k < length x.old) }
-    ensures { Kept (nat_abs most) z k x.old result x.new }
+    ensures { Kept (nat_abs most) z k x.old (is_ok result) x.new }
 {
     if !is_within(z, most) {
-        return false;
+        return Err(Beyond {});
     }
     x[k] = z as i32;
-    true
+    Ok(())
 }

@@ -1,28 +1,29 @@
 // 10: the lengths of the lent slices.
 ghost use Rattle.std.specs.Prelude.{◌≡◌};
+ghost use Rattle.rules.specs.Results.{answered};
 ghost use Rattle.factor.specs.CallAnswers.{lengths_of, length_of};
 
 use crate::run::{Task, inputs_of};
-use rules::Answer;
+use rules::{Fault, Refusal, Side};
 
 // The output.
 #[tactic(auto, unfolding(crate::specs::CallAnswers::length_of))]
-pub fn check_length(size: usize, y: usize) -> Answer
-    ensures { result ≡ length_of size y }
+pub fn check_length(size: usize, y: usize) -> Result<(), Refusal>
+    ensures { answered result ≡ length_of size y }
 {
     if y != size {
-        return Answer::refused(10, 1, 0);
+        return Err(Refusal::new(Fault::Length, Side::Second, 0));
     }
-    Answer::accepted()
+    Ok(())
 }
 
 // The input, then the output.
 #[tactic(auto, unfolding(crate::specs::CallAnswers::lengths_of))]
-pub fn check_lengths(task: Task, size: usize, x: usize, y: usize) -> Answer
-    ensures { result ≡ lengths_of task size x y }
+pub fn check_lengths(task: Task, size: usize, x: usize, y: usize) -> Result<(), Refusal>
+    ensures { answered result ≡ lengths_of task size x y }
 {
     if x != inputs_of(task, size) {
-        return Answer::refused(10, 0, 0);
+        return Err(Refusal::new(Fault::Length, Side::First, 0));
     }
     check_length(size, y)
 }

@@ -4,15 +4,14 @@
 ghost use Rattle.std.specs.Prelude.{◌≡◌, ◌+◌, ◌≤◌, ◌<◌};
 ghost use Rattle.std.specs.Int.{w64};
 ghost use Rattle.std.proofs.Common.{Fits};
-ghost use Rattle.rules.specs.Numbers.{most_order, count};
+ghost use Rattle.rules.specs.Numbers.{most_order};
 ghost use Rattle.rules.specs.Sheets.{triangle};
 ghost use Rattle.rules.specs.Factors.{above};
-ghost use Rattle.laws.specs.Readers.{Seen};
 ghost use Rattle.laws.specs.Accepted.{FactorRead};
 ghost use Rattle.factor.specs.Layouts.{layout, layout_at, row_of, is_move};
 ghost use Rattle.factor.specs.UndoingOrder.{nth_undone};
 
-use rules::{Item, Kind};
+use rules::Kind;
 use sheetread::factors::{count_at, kind_at};
 
 pub mod block; // the block between the lent slices and the runs
@@ -43,36 +42,21 @@ pub struct Row {
     pub right: usize,
 }
 
-// A factor at i that has no row of its own: its signs follow the kind number.
-fn layout_without_row(kind: Kind, n: usize, i: usize) -> Layout
-    requires { Fits w64 (i + 1 + n) }
-    ensures { result ≡ layout kind n 0 (i + 1) (i + 1 + n) }
+// A factor whose signs start there: its entries follow them.
+fn layout_from(kind: Kind, n: usize, row: usize, signs: usize) -> Layout
+    requires { Fits w64 (signs + n) }
+    ensures { result ≡ layout kind n row signs (signs + n) }
 {
     Layout {
         kind,
         order: n,
-        row: 0,
-        signs: i + 1,
-        entries: i + 1 + n,
-    }
-}
-
-// A factor of kind 4 at i: its signs follow its row.
-fn layout_with_row(sheet: &[i32], n: usize, i: usize) -> Layout
-    requires { Fits w64 (i + 2 + n) × Seen sheet.now (Item.Row n) (i + 1) }
-    ensures { result ≡ layout Kind.Single n (count sheet.now (i + 1)) (i + 2) (i + 2 + n) }
-{
-    let row = count_at(sheet, i + 1);
-    Layout {
-        kind: Kind::Single,
-        order: n,
         row,
-        signs: i + 2,
-        entries: i + 2 + n,
+        signs,
+        entries: signs + n,
     }
 }
 
-// The factor whose kind number stands at i.
+// The factor whose kind number stands at i. Its signs follow, in kind 4 after its row.
 #[tactic(auto, unfolding(crate::specs::Layouts::layout_by, crate::specs::Layouts::row_in, rules::specs::Factors::signs_at))]
 pub fn layout_at(sheet: &[i32], n: usize, i: usize) -> Layout
     requires { FactorRead sheet.now n i }
@@ -80,10 +64,8 @@ pub fn layout_at(sheet: &[i32], n: usize, i: usize) -> Layout
 {
     let kind = kind_at(sheet, i);
     match kind {
-        Kind::Permutation => return layout_without_row(kind, n, i),
-        Kind::Lower => return layout_without_row(kind, n, i),
-        Kind::Upper => return layout_without_row(kind, n, i),
-        Kind::Single => return layout_with_row(sheet, n, i),
+        Kind::Permutation | Kind::Lower | Kind::Upper => layout_from(kind, n, 0, i + 1),
+        Kind::Single => layout_from(kind, n, count_at(sheet, i + 1), i + 2),
     }
 }
 
@@ -109,44 +91,28 @@ pub fn row_of(f: Layout, m: usize) -> Row
     requires { (m < f.order) × (f.order ≤ most_order) × Fits w64 (row_of f m).at }
     ensures { result ≡ row_of f m }
 {
-    let kind = f.kind;
     let n = f.order;
-    match kind {
-        Kind::Lower => {
-            return Row {
-                at: f.entries + before_lower(m),
-                left: m,
-                right: 0,
-            };
-        }
-        Kind::Upper => {
-            return Row {
-                at: f.entries + before_upper(n, m),
-                left: 0,
-                right: n - 1 - m,
-            };
-        }
-        Kind::Single => {
-            if m == f.row {
-                return Row {
-                    at: f.entries,
-                    left: m,
-                    right: n - 1 - m,
-                };
-            }
-            return Row {
-                at: f.entries,
-                left: 0,
-                right: 0,
-            };
-        }
-        Kind::Permutation => {
-            return Row {
-                at: f.entries,
-                left: 0,
-                right: 0,
-            };
-        }
+    match f.kind {
+        Kind::Lower => Row {
+            at: f.entries + before_lower(m),
+            left: m,
+            right: 0,
+        },
+        Kind::Upper => Row {
+            at: f.entries + before_upper(n, m),
+            left: 0,
+            right: n - 1 - m,
+        },
+        Kind::Single if m == f.row => Row {
+            at: f.entries,
+            left: m,
+            right: n - 1 - m,
+        },
+        Kind::Single | Kind::Permutation => Row {
+            at: f.entries,
+            left: 0,
+            right: 0,
+        },
     }
 }
 
@@ -156,19 +122,12 @@ pub fn nth_undone(f: Layout, t: usize) -> usize
     requires { (t < f.order) × (f.row < f.order) }
     ensures { result ≡ nth_undone f.kind f.order f.row t }
 {
-    let kind = f.kind;
     let n = f.order;
-    let row = f.row;
-    match kind {
-        Kind::Permutation => return t,
-        Kind::Lower => return t,
-        Kind::Upper => return n - 1 - t,
-        Kind::Single => {
-            if t < n - 1 - row {
-                return row + 1 + t;
-            }
-            return t - (n - 1 - row);
-        }
+    match f.kind {
+        Kind::Permutation | Kind::Lower => t,
+        Kind::Upper => n - 1 - t,
+        Kind::Single if t < n - 1 - f.row => f.row + 1 + t,
+        Kind::Single => t - (n - 1 - f.row),
     }
 }
 
@@ -177,11 +136,5 @@ pub fn nth_undone(f: Layout, t: usize) -> usize
 pub fn is_move(f: Layout) -> bool
     ensures { result ≡ is_move f.kind }
 {
-    let kind = f.kind;
-    match kind {
-        Kind::Permutation => return true,
-        Kind::Lower => return false,
-        Kind::Upper => return false,
-        Kind::Single => return false,
-    }
+    matches!(f.kind, Kind::Permutation)
 }

@@ -5,17 +5,13 @@ ghost use Rattle.rules.specs.Numbers.{unit, most_entry};
 ghost use Rattle.factor.specs.Magnitudes.{magnitudes_of, Entries, whole};
 
 use rules::{Block, Sheet};
-use sheetread::factors::size;
 
 // |z|
 pub fn magnitude(z: i32) -> i32
     requires { Within most_entry z }
     ensures { result ≡ pos (nat_abs z) }
 {
-    if z < 0 {
-        return -z;
-    }
-    z
+    z.abs()
 }
 
 // The magnitudes of m numbers from place p on.
@@ -33,10 +29,9 @@ pub fn magnitudes(a: &[i32], p: usize, m: usize) -> [i32; Block::LINE]
 
 // Whether z is a multiple of 4096.
 fn is_whole(z: i32) -> bool
-    requires { Within most_entry z }
     ensures { result ≡ eqb (nat_abs z % unit) 0 }
 {
-    size(magnitude(z)) % Sheet::WHOLE == 0
+    z.unsigned_abs() as usize % Sheet::WHOLE == 0
 }
 
 // Whether m numbers from place p on are all multiples of 4096.
@@ -44,10 +39,5 @@ pub fn are_whole(a: &[i32], p: usize, m: usize) -> bool
     requires { Entries a.now p m }
     ensures { result ≡ whole a.now p m }
 {
-    for j in 0..m {
-        if !is_whole(a[p + j]) {
-            return false;
-        }
-    }
-    true
+    a[p..p + m].iter().all(|z| is_whole(*z))
 }

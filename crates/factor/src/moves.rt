@@ -22,16 +22,6 @@ pub fn copy_line(x: &[i32], n: usize, k: usize, s: usize, v: &mut [i32; Block::L
     }
 }
 
-// Which of two places.
-pub fn either(first: bool, a: usize, b: usize) -> usize
-    ensures { result ≡ cond first a b }
-{
-    if first {
-        return a;
-    }
-    b
-}
-
 // A line from a copy of it: applied, place m takes the number of place p(m); back, the number of m goes to p(m).
 #[tactic(auto, unfolding(crate::specs::MovedInPlace::scattered, crate::specs::MovedInPlace::moved_from))]
 pub fn move_from(
@@ -47,13 +37,10 @@ pub fn move_from(
     ensures { x.new ≡ moved_from (is_inverse task) f.order (permutation_at sheet.now f)
         old.now k s x.old }
 {
-    let n = f.order;
-    let places = f.signs;
     let back = is_inverse(task);
-    for m in 0..n {
-        let p = count_at(sheet, places + m);
-        let to = either(back, p, m);
-        let from = either(back, m, p);
+    for m in 0..f.order {
+        let p = count_at(sheet, f.signs + m);
+        let (to, from) = if back { (p, m) } else { (m, p) };
         x[k + to * s] = old[from];
     }
 }
@@ -64,8 +51,7 @@ pub fn move_line(sheet: &[i32], f: Layout, task: Task, x: &mut [i32], k: usize, 
     ensures { x.new ≡ moved_line (is_inverse task) f.order (permutation_at sheet.now f) k s
         x.old }
 {
-    let n = f.order;
     let mut old = [0i32; Block::LINE];
-    copy_line(x, n, k, s, &mut old);
+    copy_line(x, f.order, k, s, &mut old);
     move_from(sheet, f, task, &old, x, k, s);
 }

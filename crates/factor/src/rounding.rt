@@ -19,7 +19,7 @@ fn odd(q: i64) -> i64
     requires { Within most_roundable q }
     ensures { result ≡ pos (nat_abs q % 2) }
 {
-    q - 2 * (q >> Scale::PAIR_BITS)
+    q & 1
 }
 
 // What is added to a sum before the floor is taken: a half; nothing; or a half, and less by 1 where the floor q of the sum is
@@ -30,13 +30,16 @@ pub fn lift(down: bool, even: bool, half: i64, q: i64) -> i64
     ensures { result ≡ pos (lift_by down even (nat_abs half) q) }
 {
     if even {
-        return half - 1 + odd(q);
+        half - 1 + odd(q)
+    } else if down {
+        0
+    } else {
+        half
     }
-    if down {
-        return 0;
-    }
-    half
 }
+
+// The two scales have a function each: its half and its shift are literals there, by which its proof computes the floor, and one
+// function for both would not be shorter.
 
 // R of a line's sum, by the rule. A shift to the right is a floor, also below zero: by rule 0 it is 4096·r ≤ s + 2048, and
 // s + 2048 < 4096·r + 4096. So -2048 gives 0 and -2049 gives -1 (`roundings`).
@@ -72,13 +75,12 @@ pub fn share_of(rule: Rule) -> i64
     ensures { result ≡ pos (share rule) }
 {
     match rule {
-        Rule::Nearest => return Rule::SHARE,
-        Rule::Down => return Rule::SHARE_DOWN,
-        Rule::Even => return Rule::SHARE,
+        Rule::Nearest | Rule::Even => Rule::SHARE,
+        Rule::Down => Rule::SHARE_DOWN,
     }
 }
 
-// The quotient s / 4096 upward, for an allowance.
+// The quotient s / 4096 upward, for an allowance. A rectangle's scale has its own line in `joint`.
 #[tactic(auto, unfolding(rules::specs::Stages::ceiling))]
 pub fn raise_line(s: i64) -> i64
     requires { SFits w64 (s +ℤ pos (unit - 1)) × SFits w64 (ceiling unit s) }
@@ -101,10 +103,7 @@ pub fn undone(d: i32, y: i32, q: i64) -> i64
     ensures { result ≡ d *ℤ (y -ℤ q) }
 {
     let w = (y as i64) - q;
-    if d < 0 {
-        return -w;
-    }
-    w
+    if d < 0 { -w } else { w }
 }
 
 // b + q + share: an allowance, and what a stage adds to it.
@@ -120,8 +119,5 @@ pub fn is_within(z: i64, most: i32) -> bool
     requires { T (non_neg most) }
     ensures { result ≡ leb (nat_abs z) (nat_abs most) }
 {
-    if z < -(most as i64) {
-        return false;
-    }
-    z <= most as i64
+    -(most as i64) <= z && z <= most as i64
 }

@@ -10,7 +10,8 @@ ghost use Rattle.factor.specs.SumBounds.{Terms, RowIn, Bounded};
 use crate::Row;
 use rules::Block;
 
-// One term more.
+// One term more, of two numbers of 32 bits. Where the second has 64, `joint` has `with_sum`: one function for both would have
+// each caller here widen its number first.
 pub fn with_term(sum: i64, a: i32, x: i32) -> i64
     requires { SFits w64 a × SFits w64 x × SFits w64 (a *ℤ x) × SFits w64 (sum +ℤ (a *ℤ x)) }
     ensures { result ≡ sum +ℤ (a *ℤ x) }
@@ -45,9 +46,6 @@ pub fn row_sum(sheet: &[i32], r: Row, m: usize, x: &[i32; Block::LINE]) -> i64
     requires { RowIn sheet.now most_order r m × Bounded most_allowance x.now }
     ensures { result ≡ along (at sheet.now) r m x.now }
 {
-    let at = r.at;
-    let left = r.left;
-    let right = r.right;
-    let after = at + left;
-    products_sum(&sheet[at..], x, left) + products_sum_from(&sheet[after..], x, m + 1, right)
+    products_sum(&sheet[r.at..], x, r.left)
+        + products_sum_from(&sheet[r.at + r.left..], x, m + 1, r.right)
 }

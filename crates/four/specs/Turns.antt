@@ -1,6 +1,6 @@
 -- A LINE OF FOUR, element by element, as the code goes through it: which entries stand in a row is said by their numbers, from 1
 -- on, 0 for none.
-use Rattle.std.specs.Prelude.{Bool, true, false, cond, List, ◌≡◌, ℕ, ◌+◌, ◌-◌, ◌≤◌, ◌<◌, eqb, ltb, ℤ, pos, ◌+ℤ◌, ◌-ℤ◌, ◌*ℤ◌, length, set}
+use Rattle.std.specs.Prelude.{Bool, true, false, cond, List, ◌≡◌, Option, IfSome, ℕ, ◌+◌, ◌-◌, ◌≤◌, ◌<◌, eqb, ltb, ℤ, pos, ◌+ℤ◌, ◌-ℤ◌, ◌*ℤ◌, length, set}
 use Rattle.whole.specs.Diff.{Within}
 use Rattle.whole.specs.Stated.{Sign}
 use Rattle.rules.specs.declared.Rule.{Rule}
@@ -76,3 +76,7 @@ pub record Turned (r v : Four) (g : List ℤ → List ℤ) : Type 0 where
 pub record Became (r : Four) (new : List ℤ) : Type 0 where
   pub small : Bounded bound r.block
   pub became : r.ok ≡ true → r.block ≡ new
+
+-- what a stage gives is the new block, in bound
+abbrev pub Given : Option (List ℤ) → List ℤ → Type 0
+Given r new = IfSome r (λ y. Bounded bound y × (y ≡ new))

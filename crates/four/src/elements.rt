@@ -17,10 +17,10 @@ fn entry(sheet: &[i32], e: usize, c: usize) -> i32
     requires { EntryIn sheet.now e c }
     ensures { result ≡ entry_at sheet.now e c }
 {
-    if c == 0 {
-        return 0;
+    match c {
+        0 => 0,
+        _ => sheet[e + (c - 1)],
     }
-    sheet[e + (c - 1)]
 }
 
 // The rounded sum of the row of element m.
@@ -71,7 +71,7 @@ fn with_number(v: Four, m: usize, z: i64, left: [i32; 4]) -> Four
 
 // Element m applied, from the block x into v.
 #[tactic(auto, unfolding(crate::specs::Turns::element_by))]
-pub fn applied_at(
+fn applied_at(
     down: bool,
     even: bool,
     sheet: &[i32],
@@ -94,7 +94,7 @@ pub fn applied_at(
 // Element m undone: its own number from the block y, the others from v. A refused block is left as 0, so that no number waits
 // for its own test before it enters the next sum.
 #[tactic(auto, unfolding(crate::specs::Turns::element_by, factor::specs::PaddedBlocks::padded_block, rules::specs::Stages::inside))]
-pub fn undone_at(
+fn undone_at(
     down: bool,
     even: bool,
     sheet: &[i32],
@@ -113,4 +113,28 @@ pub fn undone_at(
     let x = v.block;
     let q = rounded_sum(down, even, sheet, p, m, a, b, c, d, &x);
     with_number(v, m, undone(sheet[p + m], y[m], q), [0; 4])
+}
+
+// A turn: element m applied, or undone if BACK.
+pub fn turn<const BACK: bool>(
+    down: bool,
+    even: bool,
+    sheet: &[i32],
+    p: usize,
+    m: usize,
+    a: usize,
+    b: usize,
+    c: usize,
+    d: usize,
+    x: [i32; 4],
+    v: Four,
+) -> Four
+    requires { ElementIn sheet.now p m a b c d × Bounded bound x × Bounded bound v.block }
+    ensures { Turned result v (turn (rule_by down even) sheet.now p BACK m a b c d x) }
+{
+    if BACK {
+        undone_at(down, even, sheet, p, m, a, b, c, d, x, v)
+    } else {
+        applied_at(down, even, sheet, p, m, a, b, c, d, x, v)
+    }
 }

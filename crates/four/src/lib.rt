@@ -9,60 +9,55 @@ ghost use Rattle.rules.specs.Shapes.{line_stage};
 ghost use Rattle.laws.specs.Accepted.{FactorRead};
 ghost use Rattle.factor.specs.SumBounds.{Bounded};
 ghost use Rattle.factor.specs.Rounding.{rule_by};
-ghost use Rattle.four.specs.Turns.{stage_on, Became};
+ghost use Rattle.four.specs.Turns.{stage_on, Became, Given};
 
+use moves::moved;
 use rules::Kind;
 use sheetread::factors::{count_at, kind_at};
+use weights::{lower, single, upper};
 
 mod elements; // one element, applied or undone
 mod moves; // permutations
-mod applied; // the kinds with weights, applied
-mod undone; // the kinds with weights, undone
+mod weights; // the kinds with weights
 
-// The block so far, and whether every number was in bound.
+// The block so far, and whether every number was in bound. An Option inside would be a test after each element, which the next
+// sum waits for; so the flag goes along, and is looked at once, at the end of the stage.
 #[derive(Clone, Copy)]
-pub struct Four {
-    pub ok: bool,
-    pub block: [i32; 4],
+struct Four {
+    ok: bool,
+    block: [i32; 4],
 }
 
-// The factor at place i, applied.
+// The factor at place i, applied, or undone if BACK.
 #[tactic(auto, unfolding(rules::specs::Factors::signs_at, laws::specs::Accepted::entries_of, rules::specs::Sheets::triangle))]
-fn applied_stage(down: bool, even: bool, sheet: &[i32], i: usize, x: [i32; 4]) -> Four
+fn stage<const BACK: bool>(down: bool, even: bool, sheet: &[i32], i: usize, x: [i32; 4]) -> Four
     requires { FactorRead sheet.now 4 i × Bounded bound x }
-    ensures { Became result (stage_on false (rule_by down even) 4 (line_stage 4 (factor_at sheet.now 4 i)) x) }
+    ensures { Became result (stage_on BACK (rule_by down even) 4 (line_stage 4 (factor_at sheet.now 4 i)) x) }
 {
-    let kind = kind_at(sheet, i);
-    match kind {
-        Kind::Permutation => return moves::applied(sheet, i + 1, x),
-        Kind::Lower => return applied::lower(down, even, sheet, i + 1, x),
-        Kind::Upper => return applied::upper(down, even, sheet, i + 1, x),
-        Kind::Single => return applied::single(down, even, sheet, i + 2, count_at(sheet, i + 1), x),
+    match kind_at(sheet, i) {
+        Kind::Permutation => moved::<BACK>(sheet, i + 1, x),
+        Kind::Lower => lower::<BACK>(down, even, sheet, i + 1, x),
+        Kind::Upper => upper::<BACK>(down, even, sheet, i + 1, x),
+        Kind::Single => single::<BACK>(down, even, sheet, i + 2, count_at(sheet, i + 1), x),
     }
 }
 
-// The factor at place i, undone.
-#[tactic(auto, unfolding(rules::specs::Factors::signs_at, laws::specs::Accepted::entries_of, rules::specs::Sheets::triangle))]
-fn undone_stage(down: bool, even: bool, sheet: &[i32], i: usize, y: [i32; 4]) -> Four
-    requires { FactorRead sheet.now 4 i × Bounded bound y }
-    ensures { Became result (stage_on true (rule_by down even) 4 (line_stage 4 (factor_at sheet.now 4 i)) y) }
-{
-    let kind = kind_at(sheet, i);
-    match kind {
-        Kind::Permutation => return moves::undone(sheet, i + 1, y),
-        Kind::Lower => return undone::lower(down, even, sheet, i + 1, y),
-        Kind::Upper => return undone::upper(down, even, sheet, i + 1, y),
-        Kind::Single => return undone::single(down, even, sheet, i + 2, count_at(sheet, i + 1), y),
-    }
-}
-
-// The factor at place i, applied or undone.
-pub fn run_stage(back: bool, down: bool, even: bool, sheet: &[i32], i: usize, x: [i32; 4]) -> Four
+// The factor at place i, applied or undone; nothing if a number lies beyond the bound.
+pub fn run_stage(
+    back: bool,
+    down: bool,
+    even: bool,
+    sheet: &[i32],
+    i: usize,
+    x: [i32; 4],
+) -> Option<[i32; 4]>
     requires { FactorRead sheet.now 4 i × Bounded bound x }
-    ensures { Became result (stage_on back (rule_by down even) 4 (line_stage 4 (factor_at sheet.now 4 i)) x) }
+    ensures { Given result (stage_on back (rule_by down even) 4 (line_stage 4 (factor_at sheet.now 4 i)) x) }
 {
-    if back {
-        return undone_stage(down, even, sheet, i, x);
-    }
-    applied_stage(down, even, sheet, i, x)
+    let r = if back {
+        stage::<true>(down, even, sheet, i, x)
+    } else {
+        stage::<false>(down, even, sheet, i, x)
+    };
+    r.ok.then_some(r.block)
 }

@@ -21,7 +21,7 @@ fn place(sheet: &[i32], p: usize, m: usize) -> usize
 
 // Place m takes the number of the m-th place.
 #[tactic(auto, unfolding(factor::specs::MovedInPlace::moved_by, rules::specs::Stages::fill))]
-pub fn applied(sheet: &[i32], p: usize, x: [i32; 4]) -> Four
+fn applied(sheet: &[i32], p: usize, x: [i32; 4]) -> Four
     requires { Stretch sheet.now (Item.Place 4 p) 4 p × Bounded bound x }
     ensures { Became result (moved_by false 4 (λ m. count sheet.now (p + m)) x) }
 {
@@ -37,7 +37,7 @@ pub fn applied(sheet: &[i32], p: usize, x: [i32; 4]) -> Four
 
 // The number of place m goes to the m-th place.
 #[tactic(auto, unfolding(factor::specs::MovedInPlace::moved_by, rules::specs::Stages::put_back))]
-pub fn undone(sheet: &[i32], p: usize, y: [i32; 4]) -> Four
+fn undone(sheet: &[i32], p: usize, y: [i32; 4]) -> Four
     requires { Stretch sheet.now (Item.Place 4 p) 4 p × Bounded bound y }
     ensures { Became result (moved_by true 4 (λ m. count sheet.now (p + m)) y) }
 {
@@ -51,4 +51,16 @@ pub fn undone(sheet: &[i32], p: usize, y: [i32; 4]) -> Four
     x[c] = y[2];
     x[d] = y[3];
     Four { ok: true, block: x }
+}
+
+// The one or the other.
+pub fn moved<const BACK: bool>(sheet: &[i32], p: usize, x: [i32; 4]) -> Four
+    requires { Stretch sheet.now (Item.Place 4 p) 4 p × Bounded bound x }
+    ensures { Became result (moved_by BACK 4 (λ m. count sheet.now (p + m)) x) }
+{
+    if BACK {
+        undone(sheet, p, x)
+    } else {
+        applied(sheet, p, x)
+    }
 }

@@ -37,11 +37,8 @@ pub fn magnitude_sums_at(
     ensures { v.new ≡ magnitude_sums col.now f i b.now n }
 {
     let r = row_of(f, i);
-    let at = r.at;
-    let left = r.left;
-    let right = r.right;
-    let a = magnitudes(col, at, left + right);
-    column_sums(&a, Row { at: 0, left, right }, i, Sheet::UNIT, b, n, v)
+    let a = magnitudes(col, r.at, r.left + r.right);
+    column_sums(&a, Row { at: 0, ..r }, i, Sheet::UNIT, b, n, v)
 }
 
 // The sum of the element in column j, with magnitudes.
@@ -50,19 +47,8 @@ fn magnitude_sum_at(row: &[i32], f: Layout, j: usize, v: &[i64; Block::LINE], b:
     ensures { result ≡ magnitude_sum row.now f j v.now b }
 {
     let r = row_of(f, j);
-    let at = r.at;
-    let left = r.left;
-    let right = r.right;
-    let a = magnitudes(row, at, left + right);
-    joint_sum(
-        &a,
-        Row { at: 0, left, right },
-        j,
-        Sheet::UNIT,
-        Sheet::UNIT,
-        v,
-        b,
-    )
+    let a = magnitudes(row, r.at, r.left + r.right);
+    joint_sum(&a, Row { at: 0, ..r }, j, Sheet::UNIT, Sheet::UNIT, v, b)
 }
 
 // Whether row m has only multiples of 4096.
@@ -71,23 +57,14 @@ pub fn is_whole_row(sheet: &[i32], f: Layout, m: usize) -> bool
     ensures { result ≡ whole_row sheet.now f m }
 {
     let r = row_of(f, m);
-    let at = r.at;
-    let left = r.left;
-    let right = r.right;
-    are_whole(sheet, at, left + right)
+    are_whole(sheet, r.at, r.left + r.right)
 }
 
 // What a rounding adds, unless both rows have only multiples of 4096.
 fn share_unless_whole(rule: Rule, a: bool, b: bool) -> i64
     ensures { result ≡ share_of rule a b }
 {
-    if !a {
-        return share_of(rule);
-    }
-    if !b {
-        return share_of(rule);
-    }
-    0
+    if a && b { 0 } else { share_of(rule) }
 }
 
 // What the element's allowance becomes; whole says that its row has only multiples of 4096.

@@ -23,8 +23,7 @@ pub fn sign_at(sheet: &[i32], f: Layout, m: usize) -> i32
     requires { InSheet sheet.now f × (m < f.order) }
     ensures { result ≡ sign_at sheet.now f m }
 {
-    let signs = f.signs;
-    sheet[signs + m]
+    sheet[f.signs + m]
 }
 
 // A sign on the diagonal, inside a sum.
@@ -132,10 +131,7 @@ pub fn turned(d: i32, w: i64) -> i64
     requires { Sign d × SFits w64 (d *ℤ w) }
     ensures { result ≡ d *ℤ w }
 {
-    if d < 0 {
-        return -w;
-    }
-    w
+    if d < 0 { -w } else { w }
 }
 
 // A sum, and a diagonal's weight, of the sign d, times the number w of its own column.

@@ -1,6 +1,5 @@
-// One row of elements: every number that it makes is in bound, or the row stops there. A row is part of one stage, so its
-// outcome is that of a run of this stage alone.
-ghost use Rattle.std.specs.Prelude.{◌<◌};
+// One row of elements: every number that it makes is in bound, or the row stops there.
+ghost use Rattle.std.specs.Prelude.{◌<◌, is_ok};
 ghost use Rattle.rules.specs.Numbers.{most_allowance};
 ghost use Rattle.factor.specs.SumBounds.{Bounded};
 ghost use Rattle.factor.specs.LayoutInSheet.{InSheet};
@@ -9,8 +8,7 @@ ghost use Rattle.joint.specs.RowsInPlace.{RowDone, in_row, plain};
 
 use crate::allowances::{allowed_at, is_whole_row, magnitude_sums_at};
 use factor::Layout;
-use factor::rounding::is_within;
-use factor::run::Outcome;
+use factor::bounds::{Beyond, keep};
 use rules::{Block, Rule};
 
 // The allowances of row i in place.
@@ -23,11 +21,11 @@ pub fn allow_row(
     fb: Layout,
     i: usize,
     x: &mut [i32; Block::CELLS],
-) -> Outcome
+) -> Result<(), Beyond>
     requires { InSheet col.now fa × InSheet row.now fb × (i < fa.order) × Bounded most_allowance x.old }
     ensures { RowDone most_allowance
         (plain (allowed_of rule col.now fa row.now fb x.old))
-        (in_row fb.order i) fb.order x.old x.new result.ok }
+        (in_row fb.order i) fb.order x.old x.new (is_ok result) }
 {
     let n = fb.order;
     let whole = is_whole_row(col, fa, i);
@@ -36,13 +34,7 @@ pub fn allow_row(
     for j in 0..n {
         let e = i * n + j;
         let z = allowed_at(rule, row, fb, j, whole, &v, x[e]);
-        if !is_within(z, Block::ALLOWANCE) {
-            return Outcome {
-                ok: false,
-                stage: 1,
-            };
-        }
-        x[e] = z as i32;
+        keep(z, Block::ALLOWANCE, x, e)?;
     }
-    Outcome { ok: true, stage: 0 }
+    Ok(())
 }

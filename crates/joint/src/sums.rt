@@ -67,7 +67,7 @@ pub fn add_rows(
     }
 }
 
-// Four sums into their columns, from c on.
+// Four sums into their columns, from c on. Each is named, so that all stay in registers.
 fn put_four(t: &[i64; Block::LINE], v: &mut [i64; Block::LINE], c: usize)
     requires { (c + 4 ≤ most_order) × Bounded most_column t.now }
     ensures { v.new ≡ with_four c t.now v.old }
@@ -82,10 +82,7 @@ fn put_four(t: &[i64; Block::LINE], v: &mut [i64; Block::LINE], c: usize)
 fn is_by_fours(n: usize, most: usize) -> bool
     ensures { result ≡ true → n % 4 ≡ 0 }
 {
-    if n <= most {
-        return false;
-    }
-    n % 4 == 0
+    n > most && n % 4 == 0
 }
 
 // m entries on one side of the diagonal, each times a row of the block, the first of which starts at place k. Four columns at a
@@ -127,12 +124,13 @@ pub fn side_sums(
 {
     if is_by_fours(n, 8) {
         sums_by_fours(a, p, m, x, k, n, v);
-        return;
+    } else {
+        add_rows(a, p, m, x, k, n, n, v);
     }
-    add_rows(a, p, m, x, k, n, n, v);
 }
 
-// The sums by fours and the row's own numbers, from place o on, each times the diagonal's weight.
+// The sums by fours and the row's own numbers, from place o on, each times the diagonal's weight. It is a function of its own:
+// one for both would add a diagonal 0 times some row where there is none.
 #[tactic(auto, unfolding(rules::specs::Stages::fill))]
 fn sums_by_fours_with(
     a: &[i32],
@@ -177,10 +175,10 @@ pub fn side_sums_with(
 {
     if is_by_fours(n, 4) {
         sums_by_fours_with(a, p, m, x, k, n, diagonal, o, v);
-        return;
+    } else {
+        add_row(diagonal, x, o, n, v);
+        add_rows(a, p, m, x, k, n, n, v);
     }
-    add_row(diagonal, x, o, n, v);
-    add_rows(a, p, m, x, k, n, n, v);
 }
 
 // Row m of a matrix, its diagonal left out, times each of the n columns of the block, into v.
@@ -196,11 +194,8 @@ pub fn rest_sums(
         × (v.old ≡ replicate most_order (pos 0)) }
     ensures { v.new ≡ rest_sums a.now r m x.now n }
 {
-    let at = r.at;
-    let left = r.left;
-    let right = r.right;
-    add_rows(a, at, left, x, 0, n, n, v);
-    add_rows(a, at + left, right, x, (m + 1) * n, n, n, v);
+    add_rows(a, r.at, r.left, x, 0, n, n, v);
+    add_rows(a, r.at + r.left, r.right, x, (m + 1) * n, n, n, v);
 }
 
 // Row m of a matrix, its diagonal too, times each of the n columns of the block, into v.
@@ -226,10 +221,7 @@ pub fn whole_sum(a: &[i32], r: Row, m: usize, diagonal: i32, v: &[i64; Block::LI
     requires { Band a.now r m diagonal × Bounded most_column v.now × Within most_rest w }
     ensures { result ≡ entries_sum a.now r m (at v.now) +ℤ (diagonal *ℤ w) }
 {
-    let at = r.at;
-    let left = r.left;
-    let right = r.right;
-    let sum = wide_sum(a, at, v, 0, left) + wide_sum(a, at + left, v, m + 1, right);
+    let sum = wide_sum(a, r.at, v, 0, r.left) + wide_sum(a, r.at + r.left, v, m + 1, r.right);
     with_sum(sum, diagonal, w)
 }
 

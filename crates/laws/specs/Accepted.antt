@@ -11,7 +11,7 @@ use Rattle.rules.specs.declared.Item.{Item}
 use Rattle.rules.specs.declared.Item.TheVariants.{Order, Count, KindNumber, Row, Place, Sign, Entry}
 use Rattle.rules.specs.declared.Kind.{Kind}
 use Rattle.rules.specs.declared.Kind.TheVariants.{Permutation, Lower, Upper, Single}
-use Rattle.rules.specs.declared.Mark.{Mark}
+use Rattle.rules.specs.Marks.{Mark}
 use Rattle.rules.specs.Numbers.{most_order, most_count, most_kind, most_entry, at, count}
 use Rattle.rules.specs.Sheets.{on, ◌then◌, times, same, among, below, unless, fault_of, one, kind_of, triangle, weights, body}
 use Rattle.rules.specs.Sheets.{factor, closed, head, reading}

@@ -5,6 +5,8 @@ pub mod Accepted
 pub mod First
 pub mod Low
 pub mod AnswersInTurn
+pub mod Results
+pub mod OneResult
 pub mod Prefix
 pub mod LongestSheet
 pub mod Sound

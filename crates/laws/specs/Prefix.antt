@@ -13,7 +13,7 @@ use Rattle.rules.specs.declared.Item.{Item}
 use Rattle.rules.specs.declared.Item.TheVariants.{Order, Count, KindNumber, Row, Place, Sign, Entry}
 use Rattle.rules.specs.declared.Kind.{Kind}
 use Rattle.rules.specs.declared.Kind.TheVariants.{Permutation, Lower, Upper, Single}
-use Rattle.rules.specs.declared.Mark.{Mark}
+use Rattle.rules.specs.Marks.{Mark}
 use Rattle.rules.specs.Numbers.{most_order, at, count}
 use Rattle.rules.specs.Sheets.{on, ◌then◌, times, among, fault_of, one, kind_of, triangle, weights, body, factor, closed, head}
 use Rattle.rules.specs.Sheets.{reading}

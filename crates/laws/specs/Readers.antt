@@ -4,7 +4,7 @@ use Rattle.std.specs.Prelude.{Bool, true, false, cond, List, ◌≡◌, refl, �
 use Rattle.std.proofs.Common.{sym, ap, ◌∙◌, subst, le_refl, arith, eq-eqb, ne_eqb, lt-ltb, le-ltb}
 use Rattle.std.proofs.Math.Decide.{dec_lt, ℕ_discrete}
 use Rattle.rules.specs.declared.Item.{Item}
-use Rattle.rules.specs.declared.Mark.{Mark}
+use Rattle.rules.specs.Marks.{Mark}
 use Rattle.rules.specs.Sheets.{on, stop, go, ◌then◌, times, fault_of, judged, one}
 
 -- ---- then

@@ -1,6 +1,6 @@
 -- THE PROMISES OF A LINE'S CALLS. `forward`, `inverse` and `allowance` have the contracts `Gives a m (ruled k forward_call (line
--- s) x y)`, and so on: k is the number of the rule (request R-5), any number at all; a is the answer, m what the lent output
--- holds then. Each theorem is about what these calls returned, and has one k throughout.
+-- s) x y)`, and so on: k is the number of the rule (request R-5), any number at all; a is the answer of the result (`answered`),
+-- m what the lent output holds then. Each theorem is about what these calls returned, and has one k throughout.
 use Rattle.std.specs.Prelude.{List, ◌≡◌, ℕ, ◌*◌, ◌^◌, ◌<◌, ℤ, pos, nat_abs, ◌-ℤ◌, ◌*ℤ◌, length, ◌≤ℤ◌}
 use Rattle.rules.specs.declared.Answer.{Answer}
 use Rattle.rules.specs.Numbers.{unit, at, count}

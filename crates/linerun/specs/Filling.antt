@@ -1,10 +1,11 @@
 -- A BLOCK MADE TURN BY TURN: in turn t its element p t becomes z t. A number beyond the bound stays, so it refuses the stage.
-use Rattle.std.specs.Prelude.{Bool, true, false, List, ◌≡◌, ℕ, ◌+◌, ◌<◌, leb, ℤ, nat_abs, length, set}
+use Rattle.std.specs.Prelude.{Bool, true, false, List, Result, is_ok, IsErrAnd, ◌≡◌, ℕ, ◌+◌, ◌<◌, leb, ℤ, nat_abs, length, set}
+use Rattle.std.proofs.lemmas.Result.{err_from_is_err_and}
 use Rattle.std.proofs.Common.{sym, ap, ◌∙◌, add-one, arith}
 use Rattle.whole.specs.Diff.{Within}
 use Rattle.rules.specs.declared.Rule.{Rule}
 use Rattle.rules.specs.Numbers.{most_order, bound, at}
-use Rattle.rules.specs.Stages.{fill}
+use Rattle.rules.specs.Stages.{fill, inside}
 use Rattle.rules.proofs.Laws.Lists.{fill-at}
 use Rattle.factor.specs.declared.Layout.{Layout}
 use Rattle.factor.specs.SumBounds.{Bounded, bounded-set, beyond-there, Kept, kept-no, kept-yes}
@@ -13,6 +14,12 @@ use Rattle.factor.specs.InPlace.{in_place, in-place-stays}
 use Rattle.factor.specs.UndoingOrder.{nth_undone, undoing-permutes}
 use Rattle.factor.specs.Steps.{Step, step-stops, step-goes}
 use Rattle.linerun.specs.Steps.{applied_at, undone_at, undone_in_place}
+
+-- the code gives up: a number of the new block is beyond the bound
+pub refuses :
+    {T E : Type 0} {most n : ℕ} {new block : List ℤ} (r : Result T E) (Q : E → Type 0) → IsErrAnd r Q →
+    inside most n new ≡ false → Step most n new (is_ok r) block
+refuses r Q q o = let p = err_from_is_err_and r q in rw p.1 (step-stops o)
 
 pub record Filling (n : ℕ) (g : ℕ → List ℤ) (p : ℕ → ℕ) (z : ℕ → ℤ) : Type 0 where
   pub next : (t : ℕ) → t < n → g (t + 1) ≡ set (g t) (p t) (z t)
@@ -31,15 +38,15 @@ module _ {n : ℕ} {g : ℕ → List ℤ} {p : ℕ → ℕ} {z : ℕ → ℤ} (f
     small = bounded-set y (p t) h.small b;
   }
 
-  pub filled-stops : {b : List ℤ} (t : ℕ) → t < n → leb (nat_abs (z t)) bound ≡ false → Step bound n (g n) false b
-  filled-stops t l h = step-stops (beyond-there bound n (g n) (p t) (z t) (f.below t l) (f.kept t l) h)
+  filled-stops : (t : ℕ) → t < n → leb (nat_abs (z t)) bound ≡ false → inside bound n (g n) ≡ false
+  filled-stops t l h = beyond-there bound n (g n) (p t) (z t) (f.below t l) (f.kept t l) h
 
   -- the code has put z t into its place, or found it beyond the bound; v is that number as the code holds it
   module _ {t : ℕ} {y new : List ℤ} {v : ℤ} {ok : Bool} (l : t < n) (e : v ≡ z t) (k : Kept bound v (p t) y ok new) where
     pub filled_next : Filled g t y → ok ≡ true → Filled g (t + 1) new
     filled_next h o = rw (k.put o, e) (filled_more l h (rw e at (kept-yes k o)))
 
-    pub filled-refused : {b : List ℤ} → ok ≡ false → Step bound n (g n) false b
+    pub filled-refused : ok ≡ false → inside bound n (g n) ≡ false
     filled-refused o = filled-stops t l (rw e at (kept-no k o))
 
   pub filled-done : {t : ℕ} {y : List ℤ} → t ≡ n → Filled g t y → Step bound n (g n) true y

@@ -18,8 +18,7 @@ use Rattle.factor.specs.declared.run.Task.TheVariants.{Forward, Inverse, Allowan
 use Rattle.factor.specs.SumBounds.{Bounded}
 use Rattle.factor.specs.Steps.{Step, step-goes}
 use Rattle.factor.specs.Tasks.{is_inverse, limit_of, inputs_of, in_order, stage_by, name_first, name_after, ran_by, run_by}
-use Rattle.four.specs.declared.Four.{Four}
-use Rattle.four.specs.Turns.{stage_on, Became}
+use Rattle.four.specs.Turns.{stage_on}
 use Rattle.four.specs.Stages.{four-list}
 
 -- ---- a task of numbers: all but allowances
@@ -52,11 +51,11 @@ stage_is Inverse rule n stage v q = refl
 stage_is Allowance rule n stage v q = absurd (q refl)
 
 pub stage-steps :
-    {r : Four} (task : Task) (rule : Rule) (n : ℕ) (stage : Stage) (v : List ℤ) → task ≢ Allowance →
-    Became r (stage_on (is_inverse task) rule n stage v) → r.ok ≡ true →
-    Step (limit_of task) n (stage_by task rule n stage v) true r.block
-stage-steps task rule n stage v q b o =
-    rw (limit_is task q) (step-goes (b.became o ∙ stage_is task rule n stage v q) b.small)
+    {y : List ℤ} (task : Task) (rule : Rule) (n : ℕ) (stage : Stage) (v : List ℤ) → task ≢ Allowance →
+    Bounded bound y × (y ≡ stage_on (is_inverse task) rule n stage v) →
+    Step (limit_of task) n (stage_by task rule n stage v) true y
+stage-steps task rule n stage v q b =
+    rw (limit_is task q) (step-goes (b.1 ∙ stage_is task rule n stage v q) b.0)
 
 -- ---- a block between the slices and the run
 pub fill-four : (v y : List ℤ) → length v ≡ 4 → length y ≡ 4 → fill 4 (at v) y ≡ v

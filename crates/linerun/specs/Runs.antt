@@ -1,6 +1,6 @@
 -- ALL FACTORS OF A LINE: the stages one by one, forward and back, as the loops of the code meet them.
-use Rattle.std.specs.Prelude.{Bool, true, false, List, ◌≡◌, refl, ℕ, ◌+◌, ◌-◌, ◌≤◌, ◌<◌, ℤ, length}
-use Rattle.std.proofs.Common.{sym, arith}
+use Rattle.std.specs.Prelude.{Bool, List, Result, MatchResult, ◌≡◌, refl, ℕ, ◌+◌, ◌-◌, ◌≤◌, ◌<◌, ℤ, length}
+use Rattle.std.proofs.Common.{arith}
 use Rattle.rules.specs.Numbers.{count}
 use Rattle.rules.specs.Factors.{factor_at, factors}
 use Rattle.rules.specs.Stages.{Stage, done, beyond}
@@ -12,17 +12,17 @@ use Rattle.rules.proofs.Laws.Kinds.{lines-good}
 use Rattle.laws.specs.Accepted.{Accepted}
 use Rattle.laws.specs.AnswersInTurn.{ran_reply}
 use Rattle.laws.specs.Sound.{sheet-sound}
-use Rattle.laws.specs.Tests.{apart}
-use Rattle.sheetread.specs.Starts.{Starts}
 use Rattle.factor.specs.declared.run.Task.{Task}
 use Rattle.factor.specs.declared.run.Run.{Run}
-use Rattle.factor.specs.declared.run.Outcome.{Outcome}
+use Rattle.factor.specs.declared.run.Place.{Place}
+use Rattle.factor.specs.Outcomes.{ended_answer}
 use Rattle.factor.specs.SumBounds.{Bounded}
-use Rattle.factor.specs.Tasks.{limit_of, inputs_of, number_of, end_answer, nth_stage, taken_by, name_first}
+use Rattle.factor.specs.Tasks.{limit_of, inputs_of, number_of, nth_stage, taken_by, name_first}
 use Rattle.factor.specs.Tasks.{name_after, run_by, ran}
 use Rattle.factor.specs.RunReplies.{GivesAsked}
 use Rattle.factor.specs.StageLoops.{Listed, Stands}
 use Rattle.factor.specs.SheetStages.{Staged, left, left-listed, left-all}
+use Rattle.linerun.specs.declared.runs.Halted.{Halted}
 
 -- the stages of a sheet
 abbrev pub line_stages_of : List ℤ → List Stage
@@ -48,14 +48,13 @@ pub line-listed : (s : List ℤ) (task : Task) →
 line-listed s task = left-listed (lines-staged (count s 0)) s task
 
 -- ---- the run of a block: what it asks of what is lent, and what it gives
-abbrev pub LineAsks : Run → List ℤ → List ℕ → List ℤ → List ℤ → List ℕ → Type 0
-LineAsks r s starts x y pair =
-    Accepted s × Starts s starts × (length x ≡ inputs_of r.task (count s 0)) × (length y ≡ count s 0) × (length pair ≡ 2)
+abbrev pub LineAsks : Run → List ℤ → List ℤ → List ℤ → Type 0
+LineAsks r s x y = (length x ≡ inputs_of r.task (count s 0)) × (length y ≡ count s 0)
 
--- ok, the output z and the pair, for the numbers x over the output y
-abbrev pub LineGives : Bool → Run → List ℤ → List ℤ → List ℤ → Bool → List ℤ → List ℕ → Type 0
-LineGives named r s x y ok z pair =
-    GivesAsked named (end_answer (number_of r.task) ok pair) z
+-- the end and the output z, for the numbers x over the output y
+abbrev pub LineGives : Bool → Run → List ℤ → List ℤ → List ℤ → Result (Unit {0}) Place → List ℤ → Type 0
+LineGives named r s x y end z =
+    GivesAsked named (ended_answer (number_of r.task) end) z
     (ran_reply (number_of r.task) (ran r (count s 0) (line_stages_of s) x) y)
 
 -- ---- the run of x that is asked for stands at v after t stages
@@ -75,28 +74,24 @@ named_in r s t v =
     name_after r.task (count s 0) stage (taken_by r (count s 0) stage v)
 
 -- a stage that a refusal can have, and the block before it
-pub record Refusable (r : Run) (s : List ℤ) (stage : ℕ) (v : List ℤ) : Type 0 where
-  pub some : 1 ≤ stage
-  pub most : stage ≤ count s 1
-  pub small : Bounded (limit_of r.task) v
+pub record Refusable (r : Run) (s : List ℤ) (h : Halted) : Type 0 where
+  pub some : 1 ≤ h.stage
+  pub most : h.stage ≤ count s 1
+  pub small : Bounded (limit_of r.task) h.before
 
 -- how the code ends a run: the last block, or the stage that is refused and the block before it
-pub record RunEnded (r : Run) (s x : List ℤ) (end : Outcome) (block : List ℤ) : Type 0 where
-  pub takes : end.ok ≡ true → run_by r (count s 0) (line_stages_of s) x ≡ done block
-  pub stops : end.ok ≡ false →
-      (run_by r (count s 0) (line_stages_of s) x ≡ beyond end.stage (named_in r s (end.stage - 1) block))
-      × Refusable r s end.stage block
+abbrev pub RunEnded : Run → List ℤ → List ℤ → Result (List ℤ) Halted → Type 0
+RunEnded r s x end =
+    let ran = run_by r (count s 0) (line_stages_of s) x in
+    MatchResult end (λ v. ran ≡ done v)
+    (λ h. (ran ≡ beyond h.stage (named_in r s (h.stage - 1) h.before)) × Refusable r s h)
 
-module _ (r : Run) (s : List ℤ) {x v : List ℤ} where
-  pub run-ends-done : run_by r (count s 0) (line_stages_of s) x ≡ done v → RunEnded r s x (record { ok = true; stage = 0 }) v
-  run-ends-done e = record { takes = λ t. e; stops = λ t. apart t }
-
+module _ (r : Run) (s x : List ℤ) {v : List ℤ} where
+  -- the refused stage, from its turn
   pub run-ends-stopped : (t : ℕ) → t < count s 1 → RunAt r s x t v →
       run_by r (count s 0) (line_stages_of s) x ≡ beyond (t + 1) (named_in r s t v) →
-      RunEnded r s x (record { ok = false; stage = t + 1 }) v
-  run-ends-stopped t l h e = record {
-    takes = λ z. apart (sym z);
-    stops = λ z.
-        let d : t + 1 - 1 ≡ t = omega arith in
-        (rw d e, record { some = omega arith; most = omega arith; small = h.small });
-  }
+      (run_by r (count s 0) (line_stages_of s) x ≡ beyond (t + 1) (named_in r s (t + 1 - 1) v))
+      × Refusable r s (record { stage = t + 1; before = v })
+  run-ends-stopped t l h e =
+      let d : t + 1 - 1 ≡ t = omega arith in
+      (rw d e, record { some = omega arith; most = omega arith; small = h.small })

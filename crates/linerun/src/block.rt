@@ -1,20 +1,18 @@
 // A run of one block over a checked sheet: the block lies at the front of an array of 16, 0 behind it.
 ghost use Rattle.std.specs.Prelude.{true, ◌≡◌, ◌-◌, ◌≤◌, length};
 ghost use Rattle.rules.specs.Numbers.{most_order};
-ghost use Rattle.laws.specs.Accepted.{Accepted};
-ghost use Rattle.sheetread.specs.Starts.{Starts};
 ghost use Rattle.factor.specs.PaddedBlocks.{padded_block};
 ghost use Rattle.linerun.specs.Runs.{LineAsks, LineGives, named_in, Refusable};
 
 use crate::fours::run_four;
-use crate::runs::run_stages;
+use crate::runs::{Halted, run_stages};
 use factor::block::copy_front;
 use factor::bounds::is_inside;
-use factor::run::{Run, note, nth_start};
+use factor::run::{Place, Run, nth_start};
 use offender::input::first_beyond;
 use offender::stage::line_element;
-use rules::{Block, Sheet};
-use sheetread::factors::count_at;
+use rules::Block;
+use sheetread::checked::Checked;
 
 // The lent numbers as a block. For allowances none are lent, and the block is all 0, which is where allowances start.
 fn load(x: &[i32]) -> [i32; Block::LINE]
@@ -26,82 +24,59 @@ fn load(x: &[i32]) -> [i32; Block::LINE]
     b
 }
 
-// The element that a refusal at a stage names; v is the block before it. It is looked for only here, where the run is refused,
-// and only if it is asked for.
-fn element(
-    named: bool,
-    run: Run,
-    s: &[i32],
-    starts: &[u16; Sheet::FACTORS],
-    stage: usize,
-    v: [i32; Block::LINE],
-) -> usize
-    requires { Accepted s.now × Starts s.now starts.now × Refusable run s.now stage v }
-    ensures { named ≡ true → result ≡ named_in run s.now (stage - 1) v }
+// The element that a refusal names. It is looked for only here, where the run is refused, and only if it is asked for.
+fn element(named: bool, run: Run, s: &Checked<'_>, halted: Halted) -> usize
+    requires { Refusable run s.now.numbers.now halted }
+    ensures { named ≡ true → result ≡ named_in run s.now.numbers.now (halted.stage - 1) halted.before }
 {
     if !named {
         return 0;
     }
-    let task = run.task;
-    let n = count_at(s, 0);
-    let i = nth_start(task, s, starts, stage - 1);
-    let mut b = v;
-    line_element(run, s, n, i, &mut b)
+    let i = nth_start(run.task, s, halted.stage - 1);
+    let mut b = halted.before;
+    line_element(run, s.numbers, s.order(), i, &mut b)
 }
 
-// Whether the run of a block is accepted: then y has what it gives. If not, y stays, and the pair has where it is refused.
-#[tactic(auto, unfolding(factor::specs::Tasks::end_answer))]
-fn run_any(
-    named: bool,
-    run: Run,
-    s: &[i32],
-    starts: &[u16; Sheet::FACTORS],
-    x: &[i32],
-    y: &mut [i32],
-    refused: &mut [usize; 2],
-) -> bool
-    requires { LineAsks run s.now starts.now x.now y.old refused.old }
-    ensures { LineGives named run s.now x.now y.old result y.new
-        refused.new }
+// The run of a block: if it is accepted, y has what it gives; if not, y stays.
+fn run_any(named: bool, run: Run, s: &Checked<'_>, x: &[i32], y: &mut [i32]) -> Result<(), Place>
+    requires { LineAsks run s.now.numbers.now x.now y.old }
+    ensures { LineGives named run s.now.numbers.now x.now y.old result y.new }
 {
     if !is_inside(x) {
-        note(refused, 0, first_beyond(x));
-        return false;
+        return Err(Place {
+            stage: 0,
+            element: first_beyond(x),
+        });
     }
-    let r = run_stages(run, s, starts, load(x));
-    let stage = r.outcome.stage;
-    if !r.outcome.ok {
-        note(
-            refused,
-            stage,
-            element(named, run, s, starts, stage, r.block),
-        );
-        return false;
+    match run_stages(run, s, load(x)) {
+        Ok(block) => {
+            let n = y.len();
+            copy_front(&block, y, n);
+            Ok(())
+        }
+        Err(halted) => Err(Place {
+            stage: halted.stage,
+            element: element(named, run, s, halted),
+        }),
     }
-    let n = y.len();
-    copy_front(&r.block, y, n);
-    true
 }
 
 // The same; a block of four is taken by itself, for its speed.
-#[tactic(auto, unfolding(factor::specs::Tasks::end_answer))]
 pub fn run_block(
     named: bool,
     run: Run,
-    s: &[i32],
-    starts: &[u16; Sheet::FACTORS],
+    s: &Checked<'_>,
     x: &[i32],
     y: &mut [i32],
-    refused: &mut [usize; 2],
-) -> bool
-    requires { LineAsks run s.now starts.now x.now y.old refused.old }
-    ensures { LineGives named run s.now x.now y.old result y.new
-        refused.new }
+) -> Result<(), Place>
+    requires { LineAsks run s.now.numbers.now x.now y.old }
+    ensures { LineGives named run s.now.numbers.now x.now y.old result y.new }
 {
-    let r = run_four(run, s, starts, x);
-    if !r.ok {
-        return run_any(named, run, s, starts, x, y, refused);
+    match run_four(run, s, x) {
+        Some(block) => {
+            copy_front(&block, y, 4);
+            Ok(())
+        }
+        None => run_any(named, run, s, x, y),
     }
-    copy_front(&r.block, y, 4);
-    true
 }

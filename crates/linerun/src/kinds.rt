@@ -1,6 +1,7 @@
-// A factor with weights, applied and undone: a loop for each kind, so that its kind is looked at once. The block goes in and
-// comes back by value. Undone in place, a loop stops at the first number beyond the bound: later sums could leave 64 bits.
-ghost use Rattle.std.specs.Prelude.{◌≢◌, ◌≡◌, ◌<◌};
+// A factor with weights, applied and undone: a loop for each kind, so that its kind is looked at once. Applied, every element of the
+// block y is made from the block x, of which y is a copy. Undone in place, a loop stops at the first number beyond the bound: later
+// sums could leave 64 bits.
+ghost use Rattle.std.specs.Prelude.{◌≢◌, ◌≡◌, ◌<◌, is_ok};
 ghost use Rattle.rules.specs.Numbers.{bound};
 ghost use Rattle.rules.specs.Stages.{fill};
 ghost use Rattle.factor.specs.Layouts.{row_of};
@@ -10,9 +11,9 @@ ghost use Rattle.factor.specs.Steps.{Step};
 ghost use Rattle.factor.specs.Rounding.{rule_by};
 ghost use Rattle.linerun.specs.Steps.{ElementGiven, rounded_sum, applied_at, undone_in_place};
 
-use crate::steps::{Passed, apply_at, undo_at};
+use crate::steps::{apply_at, undo_at};
+use factor::bounds::Beyond;
 use factor::rounding::round_line;
-use factor::run::Outcome;
 use factor::sums::{products_sum, products_sum_from, row_sum};
 use factor::{Layout, before_lower, nth_undone, row_of};
 use rules::{Block, Kind};
@@ -48,11 +49,10 @@ fn right_sum(
     requires { ElementGiven sheet.now f m x.now × (f.kind ≡ Kind.Upper) × (p ≡ (row_of f m).at) }
     ensures { result ≡ rounded_sum (rule_by down even) sheet.now f x.now m }
 {
-    let n = f.order;
     round_line(
         down,
         even,
-        products_sum_from(&sheet[p..], x, m + 1, n - 1 - m),
+        products_sum_from(&sheet[p..], x, m + 1, f.order - 1 - m),
     )
 }
 
@@ -69,183 +69,144 @@ fn single_sum(
     requires { ElementGiven sheet.now f m x.now × (f.kind ≡ Kind.Single) }
     ensures { result ≡ rounded_sum (rule_by down even) sheet.now f x.now m }
 {
-    if m != f.row {
-        return 0;
+    if m == f.row {
+        round_line(down, even, row_sum(sheet, row_of(f, m), m, x))
+    } else {
+        0
     }
-    round_line(down, even, row_sum(sheet, row_of(f, m), m, x))
 }
 
 // A lower factor, applied: every element from the old block.
 #[tactic(auto, unfolding(rules::specs::Stages::fill, rules::specs::Sheets::triangle, crate::specs::Steps::applied_at))]
-fn lower(down: bool, even: bool, sheet: &[i32], f: Layout, x: [i32; Block::LINE]) -> Passed
-    requires { InSheet sheet.now f × (f.kind ≡ Kind.Lower) × Bounded bound x }
-    ensures { Step bound f.order (fill f.order (applied_at (rule_by down even) sheet.now f x) x)
-        result.outcome.ok result.block }
+fn lower(
+    down: bool,
+    even: bool,
+    sheet: &[i32],
+    f: Layout,
+    x: &[i32; Block::LINE],
+    y: &mut [i32; Block::LINE],
+) -> Result<(), Beyond>
+    requires { InSheet sheet.now f × (f.kind ≡ Kind.Lower) × Bounded bound x.now × (y.old ≡ x.now) }
+    ensures { Step bound f.order (fill f.order (applied_at (rule_by down even) sheet.now f x.now) x.now)
+        (is_ok result) y.new }
 {
-    let n = f.order;
-    let mut y = x;
     let mut p = f.entries;
-    for m in 0..n {
-        let q = left_sum(down, even, sheet, f, p, m, &x);
-        if !apply_at(sheet, f, m, q, &x, &mut y) {
-            return Passed {
-                block: y,
-                outcome: Outcome {
-                    ok: false,
-                    stage: 1,
-                },
-            };
-        }
-        p = p + m;
+    for m in 0..f.order {
+        let q = left_sum(down, even, sheet, f, p, m, x);
+        apply_at(sheet, f, m, q, x, y)?;
+        p += m;
     }
-    Passed {
-        block: y,
-        outcome: Outcome { ok: true, stage: 0 },
-    }
+    Ok(())
 }
 
 // An upper factor, applied: every element from the old block.
 #[tactic(auto, unfolding(rules::specs::Stages::fill, rules::specs::Factors::above, crate::specs::Steps::applied_at))]
-fn upper(down: bool, even: bool, sheet: &[i32], f: Layout, x: [i32; Block::LINE]) -> Passed
-    requires { InSheet sheet.now f × (f.kind ≡ Kind.Upper) × Bounded bound x }
-    ensures { Step bound f.order (fill f.order (applied_at (rule_by down even) sheet.now f x) x)
-        result.outcome.ok result.block }
+fn upper(
+    down: bool,
+    even: bool,
+    sheet: &[i32],
+    f: Layout,
+    x: &[i32; Block::LINE],
+    y: &mut [i32; Block::LINE],
+) -> Result<(), Beyond>
+    requires { InSheet sheet.now f × (f.kind ≡ Kind.Upper) × Bounded bound x.now × (y.old ≡ x.now) }
+    ensures { Step bound f.order (fill f.order (applied_at (rule_by down even) sheet.now f x.now) x.now)
+        (is_ok result) y.new }
 {
-    let n = f.order;
-    let mut y = x;
     let mut p = f.entries;
-    for m in 0..n {
-        let q = right_sum(down, even, sheet, f, p, m, &x);
-        if !apply_at(sheet, f, m, q, &x, &mut y) {
-            return Passed {
-                block: y,
-                outcome: Outcome {
-                    ok: false,
-                    stage: 1,
-                },
-            };
-        }
-        p = p + (n - 1 - m);
+    for m in 0..f.order {
+        let q = right_sum(down, even, sheet, f, p, m, x);
+        apply_at(sheet, f, m, q, x, y)?;
+        p += f.order - 1 - m;
     }
-    Passed {
-        block: y,
-        outcome: Outcome { ok: true, stage: 0 },
-    }
+    Ok(())
 }
 
 // A factor with a single row, applied: every element from the old block.
 #[tactic(auto, unfolding(rules::specs::Stages::fill, crate::specs::Steps::applied_at))]
-fn single(down: bool, even: bool, sheet: &[i32], f: Layout, x: [i32; Block::LINE]) -> Passed
-    requires { InSheet sheet.now f × (f.kind ≡ Kind.Single) × Bounded bound x }
-    ensures { Step bound f.order (fill f.order (applied_at (rule_by down even) sheet.now f x) x)
-        result.outcome.ok result.block }
+fn single(
+    down: bool,
+    even: bool,
+    sheet: &[i32],
+    f: Layout,
+    x: &[i32; Block::LINE],
+    y: &mut [i32; Block::LINE],
+) -> Result<(), Beyond>
+    requires { InSheet sheet.now f × (f.kind ≡ Kind.Single) × Bounded bound x.now × (y.old ≡ x.now) }
+    ensures { Step bound f.order (fill f.order (applied_at (rule_by down even) sheet.now f x.now) x.now)
+        (is_ok result) y.new }
 {
-    let n = f.order;
-    let mut y = x;
-    for m in 0..n {
-        let q = single_sum(down, even, sheet, f, m, &x);
-        if !apply_at(sheet, f, m, q, &x, &mut y) {
-            return Passed {
-                block: y,
-                outcome: Outcome {
-                    ok: false,
-                    stage: 1,
-                },
-            };
-        }
+    for m in 0..f.order {
+        let q = single_sum(down, even, sheet, f, m, x);
+        apply_at(sheet, f, m, q, x, y)?;
     }
-    Passed {
-        block: y,
-        outcome: Outcome { ok: true, stage: 0 },
-    }
+    Ok(())
 }
 
 // A lower factor, undone.
 #[tactic(auto, unfolding(factor::specs::UndoingOrder::nth_undone, factor::specs::InPlace::in_place, rules::specs::Sheets::triangle, crate::specs::Steps::undone_at))]
-fn lower_back(down: bool, even: bool, sheet: &[i32], f: Layout, y: [i32; Block::LINE]) -> Passed
-    requires { InSheet sheet.now f × (f.kind ≡ Kind.Lower) × (f.row < f.order) × Bounded bound y }
-    ensures { Step bound f.order (undone_in_place (rule_by down even) sheet.now f f.order y)
-        result.outcome.ok result.block }
+fn lower_back(
+    down: bool,
+    even: bool,
+    sheet: &[i32],
+    f: Layout,
+    x: &mut [i32; Block::LINE],
+) -> Result<(), Beyond>
+    requires { InSheet sheet.now f × (f.kind ≡ Kind.Lower) × (f.row < f.order) × Bounded bound x.old }
+    ensures { Step bound f.order (undone_in_place (rule_by down even) sheet.now f f.order x.old)
+        (is_ok result) x.new }
 {
-    let n = f.order;
-    let mut x = y;
     let mut p = f.entries;
-    for t in 0..n {
-        let m = t;
-        let q = left_sum(down, even, sheet, f, p, m, &x);
-        if !undo_at(sheet, f, m, q, &mut x) {
-            return Passed {
-                block: x,
-                outcome: Outcome {
-                    ok: false,
-                    stage: 1,
-                },
-            };
-        }
-        p = p + m;
+    for m in 0..f.order {
+        let q = left_sum(down, even, sheet, f, p, m, x);
+        undo_at(sheet, f, m, q, x)?;
+        p += m;
     }
-    Passed {
-        block: x,
-        outcome: Outcome { ok: true, stage: 0 },
-    }
+    Ok(())
 }
 
 // An upper factor, undone.
 #[tactic(auto, unfolding(factor::specs::UndoingOrder::nth_undone, factor::specs::InPlace::in_place, rules::specs::Factors::above, crate::specs::Steps::undone_at))]
-fn upper_back(down: bool, even: bool, sheet: &[i32], f: Layout, y: [i32; Block::LINE]) -> Passed
-    requires { InSheet sheet.now f × (f.kind ≡ Kind.Upper) × (f.row < f.order) × Bounded bound y }
-    ensures { Step bound f.order (undone_in_place (rule_by down even) sheet.now f f.order y)
-        result.outcome.ok result.block }
+fn upper_back(
+    down: bool,
+    even: bool,
+    sheet: &[i32],
+    f: Layout,
+    x: &mut [i32; Block::LINE],
+) -> Result<(), Beyond>
+    requires { InSheet sheet.now f × (f.kind ≡ Kind.Upper) × (f.row < f.order) × Bounded bound x.old }
+    ensures { Step bound f.order (undone_in_place (rule_by down even) sheet.now f f.order x.old)
+        (is_ok result) x.new }
 {
-    let n = f.order;
-    let mut x = y;
-    let mut p = f.entries + before_lower(n);
-    for t in 0..n {
-        let m = n - 1 - t;
-        p = p - t;
-        let q = right_sum(down, even, sheet, f, p, m, &x);
-        if !undo_at(sheet, f, m, q, &mut x) {
-            return Passed {
-                block: x,
-                outcome: Outcome {
-                    ok: false,
-                    stage: 1,
-                },
-            };
-        }
+    let mut p = f.entries + before_lower(f.order);
+    for t in 0..f.order {
+        let m = f.order - 1 - t;
+        p -= t;
+        let q = right_sum(down, even, sheet, f, p, m, x);
+        undo_at(sheet, f, m, q, x)?;
     }
-    Passed {
-        block: x,
-        outcome: Outcome { ok: true, stage: 0 },
-    }
+    Ok(())
 }
 
 // A factor with a single row, undone.
 #[tactic(auto, unfolding(factor::specs::UndoingOrder::nth_undone, factor::specs::InPlace::in_place, crate::specs::Steps::undone_at))]
-fn single_back(down: bool, even: bool, sheet: &[i32], f: Layout, y: [i32; Block::LINE]) -> Passed
-    requires { InSheet sheet.now f × (f.kind ≡ Kind.Single) × (f.row < f.order) × Bounded bound y }
-    ensures { Step bound f.order (undone_in_place (rule_by down even) sheet.now f f.order y)
-        result.outcome.ok result.block }
+fn single_back(
+    down: bool,
+    even: bool,
+    sheet: &[i32],
+    f: Layout,
+    x: &mut [i32; Block::LINE],
+) -> Result<(), Beyond>
+    requires { InSheet sheet.now f × (f.kind ≡ Kind.Single) × (f.row < f.order) × Bounded bound x.old }
+    ensures { Step bound f.order (undone_in_place (rule_by down even) sheet.now f f.order x.old)
+        (is_ok result) x.new }
 {
-    let n = f.order;
-    let mut x = y;
-    for t in 0..n {
+    for t in 0..f.order {
         let m = nth_undone(f, t);
-        let q = single_sum(down, even, sheet, f, m, &x);
-        if !undo_at(sheet, f, m, q, &mut x) {
-            return Passed {
-                block: x,
-                outcome: Outcome {
-                    ok: false,
-                    stage: 1,
-                },
-            };
-        }
+        let q = single_sum(down, even, sheet, f, m, x);
+        undo_at(sheet, f, m, q, x)?;
     }
-    Passed {
-        block: x,
-        outcome: Outcome { ok: true, stage: 0 },
-    }
+    Ok(())
 }
 
 // A factor with weights, applied. A permutation has none, and does not come here. The loops of triangles, which round in every
@@ -255,28 +216,20 @@ pub fn apply_weights(
     even: bool,
     sheet: &[i32],
     f: Layout,
-    x: [i32; Block::LINE],
-) -> Passed
-    requires { InSheet sheet.now f × (f.kind ≢ Kind.Permutation) × Bounded bound x }
-    ensures { Step bound f.order (fill f.order (applied_at (rule_by down even) sheet.now f x) x)
-        result.outcome.ok result.block }
+    x: &[i32; Block::LINE],
+    y: &mut [i32; Block::LINE],
+) -> Result<(), Beyond>
+    requires { InSheet sheet.now f × (f.kind ≢ Kind.Permutation) × Bounded bound x.now × (y.old ≡ x.now) }
+    ensures { Step bound f.order (fill f.order (applied_at (rule_by down even) sheet.now f x.now) x.now)
+        (is_ok result) y.new }
 {
-    let kind = f.kind;
-    match kind {
-        Kind::Permutation => return single(down, even, sheet, f, x),
-        Kind::Lower => {
-            if even {
-                return lower(down, true, sheet, f, x);
-            }
-            return lower(down, false, sheet, f, x);
-        }
-        Kind::Upper => {
-            if even {
-                return upper(down, true, sheet, f, x);
-            }
-            return upper(down, false, sheet, f, x);
-        }
-        Kind::Single => return single(down, even, sheet, f, x),
+    match f.kind {
+        Kind::Permutation => single(down, even, sheet, f, x, y),
+        Kind::Lower if even => lower(down, true, sheet, f, x, y),
+        Kind::Lower => lower(down, false, sheet, f, x, y),
+        Kind::Upper if even => upper(down, true, sheet, f, x, y),
+        Kind::Upper => upper(down, false, sheet, f, x, y),
+        Kind::Single => single(down, even, sheet, f, x, y),
     }
 }
 
@@ -286,27 +239,18 @@ pub fn undo_weights(
     even: bool,
     sheet: &[i32],
     f: Layout,
-    y: [i32; Block::LINE],
-) -> Passed
-    requires { InSheet sheet.now f × (f.kind ≢ Kind.Permutation) × (f.row < f.order) × Bounded bound y }
-    ensures { Step bound f.order (undone_in_place (rule_by down even) sheet.now f f.order y)
-        result.outcome.ok result.block }
+    x: &mut [i32; Block::LINE],
+) -> Result<(), Beyond>
+    requires { InSheet sheet.now f × (f.kind ≢ Kind.Permutation) × (f.row < f.order) × Bounded bound x.old }
+    ensures { Step bound f.order (undone_in_place (rule_by down even) sheet.now f f.order x.old)
+        (is_ok result) x.new }
 {
-    let kind = f.kind;
-    match kind {
-        Kind::Permutation => return single_back(down, even, sheet, f, y),
-        Kind::Lower => {
-            if even {
-                return lower_back(down, true, sheet, f, y);
-            }
-            return lower_back(down, false, sheet, f, y);
-        }
-        Kind::Upper => {
-            if even {
-                return upper_back(down, true, sheet, f, y);
-            }
-            return upper_back(down, false, sheet, f, y);
-        }
-        Kind::Single => return single_back(down, even, sheet, f, y),
+    match f.kind {
+        Kind::Permutation => single_back(down, even, sheet, f, x),
+        Kind::Lower if even => lower_back(down, true, sheet, f, x),
+        Kind::Lower => lower_back(down, false, sheet, f, x),
+        Kind::Upper if even => upper_back(down, true, sheet, f, x),
+        Kind::Upper => upper_back(down, false, sheet, f, x),
+        Kind::Single => single_back(down, even, sheet, f, x),
     }
 }

@@ -1,5 +1,5 @@
 // One element of a factor with weights, applied and undone; and what the factor does to allowances.
-ghost use Rattle.std.specs.Prelude.{◌≡◌, cond, ◌+◌, ◌<◌, pos, ◌+ℤ◌, ◌-ℤ◌, ◌*ℤ◌};
+ghost use Rattle.std.specs.Prelude.{◌≡◌, is_ok, cond, ◌+◌, ◌<◌, pos, ◌+ℤ◌, ◌-ℤ◌, ◌*ℤ◌};
 ghost use Rattle.std.specs.Int.{w64};
 ghost use Rattle.std.proofs.Common.{Fits};
 ghost use Rattle.whole.specs.Diff.{Within};
@@ -14,22 +14,14 @@ ghost use Rattle.linerun.specs.Steps.{ElementGiven, allowed_at};
 ghost use Rattle.linerun.specs.LineBounds.{most_rounded};
 ghost use Rattle.linerun.specs.RowColumns.{column_of};
 
-use factor::bounds::keep;
+use factor::bounds::{Beyond, keep};
 use factor::magnitudes::{are_whole, magnitude};
-use factor::rounding::{applied, is_within, raise_line, raised, share_of, undone};
-use factor::run::Outcome;
+use factor::rounding::{applied, raise_line, raised, share_of, undone};
 use factor::sums::with_term;
 use factor::{Layout, Row, row_of};
 use rules::{Block, Rule};
 
-// The block by value, and how it ended. Nobody looks at the block of a stage that is refused.
-#[derive(Clone, Copy)]
-pub struct Passed {
-    pub block: [i32; Block::LINE],
-    pub outcome: Outcome,
-}
-
-// Element m of the new block y, from the old block x and the rounded sum q of its row, if it is in bound. Answers whether it is.
+// Element m of the new block y, from the old block x and the rounded sum q of its row, if it is in bound.
 pub fn apply_at(
     sheet: &[i32],
     f: Layout,
@@ -37,23 +29,27 @@ pub fn apply_at(
     q: i64,
     x: &[i32; Block::LINE],
     y: &mut [i32; Block::LINE],
-) -> bool
+) -> Result<(), Beyond>
     requires { ElementGiven sheet.now f m x.now × Within most_rounded q }
     ensures { Kept bound ((at sheet.now (f.signs + m) *ℤ at x.now m) +ℤ q) m
-        y.old result y.new }
+        y.old (is_ok result) y.new }
 {
-    let signs = f.signs;
-    keep(applied(sheet[signs + m], x[m], q), Block::SAMPLE, y, m)
+    keep(applied(sheet[f.signs + m], x[m], q), Block::SAMPLE, y, m)
 }
 
-// What element m was, by the rounded sum q of its row, in its place in the block, if it is in bound. Answers whether it is.
-pub fn undo_at(sheet: &[i32], f: Layout, m: usize, q: i64, x: &mut [i32; Block::LINE]) -> bool
+// What element m was, by the rounded sum q of its row, in its place in the block, if it is in bound.
+pub fn undo_at(
+    sheet: &[i32],
+    f: Layout,
+    m: usize,
+    q: i64,
+    x: &mut [i32; Block::LINE],
+) -> Result<(), Beyond>
     requires { ElementGiven sheet.now f m x.old × Within most_rounded q }
     ensures { Kept bound (at sheet.now (f.signs + m) *ℤ (at x.old m -ℤ q)) m
-        x.old result x.new }
+        x.old (is_ok result) x.new }
 {
-    let signs = f.signs;
-    keep(undone(sheet[signs + m], x[m], q), Block::SAMPLE, x, m)
+    keep(undone(sheet[f.signs + m], x[m], q), Block::SAMPLE, x, m)
 }
 
 // What the rounding of a row adds, unless all its entries are multiples of 4096.
@@ -62,9 +58,10 @@ fn row_share(rule: Rule, sheet: &[i32], p: usize, m: usize) -> i64
     ensures { result ≡ cond (whole sheet.now p m) (pos 0) (pos (share rule)) }
 {
     if are_whole(sheet, p, m) {
-        return 0;
+        0
+    } else {
+        share_of(rule)
     }
-    share_of(rule)
 }
 
 // The column of entry j of row m.
@@ -72,11 +69,7 @@ fn column_of(r: Row, m: usize, j: usize) -> usize
     requires { Fits w64 (m + 1 + j) }
     ensures { result ≡ column_of r m j }
 {
-    let left = r.left;
-    if j < left {
-        return j;
-    }
-    m + 1 + (j - left)
+    if j < r.left { j } else { m + 1 + (j - r.left) }
 }
 
 // The sum of the magnitudes of row m, each times the allowance of its column. Nobody waits for allowances, so what counts is that
@@ -86,11 +79,10 @@ fn magnitude_sum_at(sheet: &[i32], r: Row, m: usize, b: &[i32; Block::LINE]) -> 
     requires { RowIn sheet.now most_order r m × Bounded most_allowance b.now }
     ensures { result ≡ along (magnitude_at sheet.now) r m b.now }
 {
-    let at = r.at;
     let many = r.left + r.right;
     let mut sum: i64 = 0;
     for j in 0..many {
-        sum = with_term(sum, magnitude(sheet[at + j]), b[column_of(r, m, j)]);
+        sum = with_term(sum, magnitude(sheet[r.at + j]), b[column_of(r, m, j)]);
     }
     sum
 }
@@ -102,39 +94,29 @@ pub fn allowed_at(rule: Rule, sheet: &[i32], f: Layout, m: usize, b: &[i32; Bloc
     ensures { result ≡ allowed_at rule sheet.now f b.now m }
 {
     let r = row_of(f, m);
-    let at = r.at;
-    let many = r.left + r.right;
     raised(
         b[m],
         raise_line(magnitude_sum_at(sheet, r, m, b)),
-        row_share(rule, sheet, at, many),
+        row_share(rule, sheet, r.at, r.left + r.right),
     )
 }
 
 // The allowances after a factor with weights.
 #[tactic(auto, unfolding(rules::specs::Stages::fill))]
-pub fn allow_weights(rule: Rule, sheet: &[i32], f: Layout, b: [i32; Block::LINE]) -> Passed
-    requires { InSheet sheet.now f × Bounded most_allowance b }
-    ensures { Step most_allowance f.order (fill f.order (allowed_at rule sheet.now f b) b)
-        result.outcome.ok result.block }
+pub fn allow_weights(
+    rule: Rule,
+    sheet: &[i32],
+    f: Layout,
+    b: &[i32; Block::LINE],
+    c: &mut [i32; Block::LINE],
+) -> Result<(), Beyond>
+    requires { InSheet sheet.now f × Bounded most_allowance b.now }
+    ensures { Step most_allowance f.order (fill f.order (allowed_at rule sheet.now f b.now) b.now)
+        (is_ok result) c.new }
 {
-    let n = f.order;
-    let mut c = b;
-    for m in 0..n {
-        let z = allowed_at(rule, sheet, f, m, &b);
-        if !is_within(z, Block::ALLOWANCE) {
-            return Passed {
-                block: c,
-                outcome: Outcome {
-                    ok: false,
-                    stage: 1,
-                },
-            };
-        }
-        c[m] = z as i32;
+    *c = *b;
+    for m in 0..f.order {
+        keep(allowed_at(rule, sheet, f, m, b), Block::ALLOWANCE, c, m)?;
     }
-    Passed {
-        block: c,
-        outcome: Outcome { ok: true, stage: 0 },
-    }
+    Ok(())
 }

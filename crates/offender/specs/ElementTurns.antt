@@ -1,5 +1,5 @@
 -- THE TURN OF AN ELEMENT, from the layouts of its factors: a line, a rectangle, a pass.
-use Rattle.std.specs.Prelude.{cond, List, ◌≡◌, refl, ℕ, ◌+◌, ◌*◌, ◌/◌, ◌%◌, ◌<◌, eqb, ℤ}
+use Rattle.std.specs.Prelude.{Bool, cond, List, ◌≡◌, refl, ℕ, ◌+◌, ◌*◌, ◌/◌, ◌%◌, ◌<◌, eqb, ℤ}
 use Rattle.std.proofs.Common.{sym, ◌∙◌}
 use Rattle.rules.specs.declared.Kind.{Kind}
 use Rattle.rules.specs.declared.Kind.TheVariants.{Permutation, Lower, Upper, Single}
@@ -42,10 +42,11 @@ unfolding layout_at layout_by factor_at in_row joint_shared
 joint-turn {c} {r} {n1} {n2} {i} {j} p a b e =
     rw (a, b) (turn-alike (kind_of (count c i)) (n1 * n2) e (λ z. rw (single-row c i z, single-row r j (sym p.match ∙ z))))
 
-pub pass-turn : (q : Refused) (f : Factor) (e : ℕ) →
-    (lines q).line e * (q.n1 + 4) + turn f.kind q.n1 (in_row f ((lines q).spot e)) ((lines q).spot e) ≡ pass_turn (lines q) f e
+pub pass-turn : (q : Refused) (down : Bool) (f : Factor) (e : ℕ) →
+    let r = lines q down in
+    r.line e * (q.n1 + 4) + turn f.kind q.n1 (in_row f (r.spot e)) (r.spot e) ≡ pass_turn r f e
 unfolding pass_turn
-pass-turn q f e = rw (lines_long q.down q.n2 q.n1)
+pass-turn q down f e = rw (lines_long down q.n2 q.n1)
 
 -- no turn of a line is later than n + 3
 pub turn-most : (s : List ℤ) (n i m : ℕ) → m < n → turn (kind_of (count s i)) n (in_row (factor_at s n i) m) m < n + 4

@@ -69,7 +69,7 @@ none-moved task rule q c r {v} k h = go q.shape
         name_after task (cells q) t (stage_by task rule (cells q) t v) ≡ 0
     go Joint =
         unfold stage_shaped joint_stage factor_at in moving (cells q) (stage-moves _ _ _ k) (moved_none task rule (cells q) _ _ h)
-    go Pass =
+    go (Pass down) =
         unfold stage_shaped pass_stage factor_at in moving (cells q) (stage-moves _ _ _ k) (moved_none task rule (cells q) _ _ h)
 
 -- ---- a stage with weights
@@ -97,9 +97,9 @@ module _ {q : Refused} {c r : List ℤ} (h : Weighed q c r) where
       go Joint =
           unfold cells_by turns_by scale_by sign_by weight_by turn_by stage_shaped joint_stage order factor_at in
           stage-weighs _ _ _ h.weighs
-      go Pass =
+      go (Pass down) =
           unfold cells_by turns_by scale_by sign_by weight_by turn_by stage_shaped factor_at in
-          pass-weighs q.down q.n2 q.n1 A h.weighs
+          pass-weighs down q.n2 q.n1 A h.weighs
 
   good : Good (cells q) (stage_of q c r)
   good = go q.shape refl
@@ -109,10 +109,10 @@ module _ {q : Refused} {c r : List ℤ} (h : Weighed q c r) where
           unfold cells_by stage_shaped in
           joint-good q.n1 q.n2 A B (unfold factor_at in (h.placed.pair e).match) (factor-sound h.placed.column)
           (factor-sound (h.placed.pair e).row)
-      go Pass e =
+      go (Pass down) e =
           unfold cells_by stage_shaped in
-          pass-good (tiles-by q.down q.n2 q.n1) A
-          (rw (lines_long q.down q.n2 q.n1) (factor-sound h.placed.column))
+          pass-good (tiles-by down q.n2 q.n1) A
+          (rw (lines_long down q.n2 q.n1) (factor-sound h.placed.column))
 
   recovers : Recovers (cells q) (sign_of q c r) (weight_of q c r) (order_of true q c r)
   recovers = good-recovers (subst (Good (cells q)) weighing good)

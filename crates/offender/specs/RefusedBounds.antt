@@ -29,15 +29,15 @@ small p = (p.most1, p.most2)
 cells-by : (q : Refused) → Small q → (s : Shape) → cells_by q s ≤ most_cells
 unfolding cells_by
 cells-by q h Joint = mul-le-mul h.0 h.1
-cells-by q h Pass = mul-le-mul h.1 h.0
+cells-by q h (Pass down) = mul-le-mul h.1 h.0
 
 -- an element of a pass is in one of its lines
-module _ (q : Refused) (e : ℕ) (l : e < q.n2 * q.n1) where
-  pub line-below : (lines q).line e < q.n2
-  line-below = rw (lines-many q.down q.n2 q.n1) at ((tiles-by q.down q.n2 q.n1).line-below e l)
+module _ (q : Refused) (down : Bool) (e : ℕ) (l : e < q.n2 * q.n1) where
+  pub line-below : (lines q down).line e < q.n2
+  line-below = rw (lines-many down q.n2 q.n1) at ((tiles-by down q.n2 q.n1).line-below e l)
 
-  pub spot-below : (lines q).spot e < q.n1
-  spot-below = rw (lines_long q.down q.n2 q.n1) at ((tiles-by q.down q.n2 q.n1).spot-below e l)
+  pub spot-below : (lines q down).spot e < q.n1
+  spot-below = rw (lines_long down q.n2 q.n1) at ((tiles-by down q.n2 q.n1).spot-below e l)
 
 -- a weight, a sum, and the sum rounded
 abbrev pub most_weight : ℕ
@@ -76,12 +76,12 @@ module _ {q : Refused} {c r : List ℤ} (h : Weighed q c r) where
   pub in-column : q.shape ≡ Joint → (e : ℕ) → e < cells q → e % q.n2 < q.n2
   in-column s e l = col-below q.n1 q.n2 e (in-joint s e l)
 
-  pub in-pass : q.shape ≡ Pass → (e : ℕ) → e < cells q → e < q.n2 * q.n1
+  pub in-pass : {down : Bool} → q.shape ≡ Pass down → (e : ℕ) → e < cells q → e < q.n2 * q.n1
   unfolding cells_by
   in-pass s e l = rw s at l
 
-  pub in_spot : q.shape ≡ Pass → (e : ℕ) → e < cells q → (lines q).spot e < q.n1
-  in_spot s e l = spot-below q e (in-pass s e l)
+  pub in_spot : {down : Bool} → q.shape ≡ Pass down → (e : ℕ) → e < cells q → (lines q down).spot e < q.n1
+  in_spot {down} s e l = spot-below q down e (in-pass s e l)
 
   pub sign-one : (e : ℕ) → e < cells q → Sign (sign_of q c r e)
   sign-one e l = go q.shape refl
@@ -91,7 +91,7 @@ module _ {q : Refused} {c r : List ℤ} (h : Weighed q c r) where
       go Joint s =
           unfold sign_by joint_sign in
           signs-times (sign-is first refl (e / q.n2) (in_row_lem s e l)) (sign-is (second s) refl (e % q.n2) (in-column s e l))
-      go Pass s = unfold sign_by pass_sign in sign-is first refl ((lines q).spot e) (in_spot s e l)
+      go (Pass down) s = unfold sign_by pass_sign in sign-is first refl ((lines q down).spot e) (in_spot s e l)
 
   pub weight-small : (e k : ℕ) → e < cells q → k < cells q → Within most_weight (weight_of q c r e k)
   weight-small e k l b = go q.shape refl
@@ -103,10 +103,10 @@ module _ {q : Refused} {c r : List ℤ} (h : Weighed q c r) where
           within-*
           (matrix-small first (e / q.n2) (k / q.n2) (in_row_lem s e l) (in_row_lem s k b))
           (matrix-small (second s) (e % q.n2) (k % q.n2) (in-column s e l) (in-column s k b))
-      go Pass s =
+      go (Pass down) s =
           unfold weight_by pass_weight in
-          either-small (eqb ((lines q).line e) ((lines q).line k))
-          (within-le (omega arith) (matrix-small first ((lines q).spot e) ((lines q).spot k) (in_spot s e l) (in_spot s k b)))
+          either-small (eqb ((lines q down).line e) ((lines q down).line k))
+          (within-le (omega arith) (matrix-small first ((lines q down).spot e) ((lines q down).spot k) (in_spot s e l) (in_spot s k b)))
           (within-le (omega arith) (within-pos 0))
 
   pub off_small : (e k : ℕ) → e < cells q → k < cells q → Within most_weight (off (weight_of q c r) e k)
@@ -135,7 +135,7 @@ module _ {q : Refused} {c r x : List ℤ} (g : Given q c r x) (e : ℕ) (l : e <
     where
       go : (s : Shape) → Within most_rounded (R rule (scale_by s) (weighed (cells q) (off (weight_of q c r) e) x))
       go Joint = unfold scale_by in within-le (omega arith) (rounded-within rule unit² (omega arith) (omega arith) sum-small)
-      go Pass = unfold scale_by in within-le (omega arith) (rounded-within rule unit (omega arith) (omega arith) sum-small)
+      go (Pass down) = unfold scale_by in within-le (omega arith) (rounded-within rule unit (omega arith) (omega arith) sum-small)
 
 -- what a search goes on with is in bound
 pub given-on : {q : Refused} {c r v x : List ℤ} {find : List ℕ → List ℤ → ℕ} {es : List ℕ} → Given q c r v → Passed find es v x →

@@ -20,37 +20,37 @@ use Rattle.offender.specs.Search.{made, searched}
 
 -- ---- by the shape
 -- the lines of a pass
-abbrev pub lines : Refused → Lines
-lines q = lines_by q.down q.n2 q.n1
+abbrev pub lines : Refused → Bool → Lines
+lines q down = lines_by down q.n2 q.n1
 
 unfoldable pub cells_by : Refused → Shape → ℕ
 cells_by q Joint = q.n1 * q.n2
-cells_by q Pass = q.n2 * q.n1
+cells_by q (Pass down) = q.n2 * q.n1
 
 unfoldable pub turns_by : Refused → Shape → ℕ
 turns_by q Joint = q.n1 * q.n2 + 4
-turns_by q Pass = q.n2 * (q.n1 + 4)
+turns_by q (Pass down) = q.n2 * (q.n1 + 4)
 
 unfoldable pub scale_by : Shape → ℕ
 scale_by Joint = unit²
-scale_by Pass = unit
+scale_by (Pass down) = unit
 
 module _ (q : Refused) (A B : Factor) where
   unfoldable pub sign_by : Shape → ℕ → ℤ
   sign_by Joint e = joint_sign q.n1 q.n2 A B e
-  sign_by Pass e = pass_sign (lines q) A e
+  sign_by (Pass down) e = pass_sign (lines q down) A e
 
   unfoldable pub weight_by : Shape → ℕ → ℕ → ℤ
   weight_by Joint e k = joint_weight q.n1 q.n2 A B e k
-  weight_by Pass e k = pass_weight (lines q) A e k
+  weight_by (Pass down) e k = pass_weight (lines q down) A e k
 
   unfoldable pub turn_by : Shape → ℕ → ℕ
   turn_by Joint e = turn A.kind (q.n1 * q.n2) (joint_shared q.n1 q.n2 A B e) e
-  turn_by Pass e = pass_turn (lines q) A e
+  turn_by (Pass down) e = pass_turn (lines q down) A e
 
   unfoldable pub stage_shaped : Shape → Stage
   stage_shaped Joint = joint_stage q.n1 q.n2 A B
-  stage_shaped Pass = pass_stage (lines q) A
+  stage_shaped (Pass down) = pass_stage (lines q down) A
 
 -- ---- of the stage
 abbrev pub cells : Refused → ℕ

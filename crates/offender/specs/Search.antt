@@ -1,11 +1,16 @@
 -- THE SEARCH ALONG AN ORDER: numbers are made, one after another, until one is beyond the bound. Those that are recovered are put
 -- in place; none of them is recovered twice. So the one that is found is the first beyond the bound in the list that the whole
 -- stage leaves.
-use Rattle.std.specs.Prelude.{Bool, cond, ◌≡◌, ℕ, zero, suc, ◌+◌, ◌≤◌, ◌<◌, eqb, leb, nat_abs, ◌+ℤ◌, ◌-ℤ◌, ◌*ℤ◌, length, set}
+use Rattle.std.specs.Prelude.{Bool, Option, Some, None, not, position, unwrap_or, pos, cond, ◌≡◌, ℕ, zero, suc, ◌+◌, ◌≤◌, ◌<◌, eqb, leb, nat_abs, ◌+ℤ◌, ◌-ℤ◌, ◌*ℤ◌, length, set}
 use Rattle.std.proofs.Math.Bool.{true, false}
 use mathlib.Core.List.{List, [], ◌∷◌, ◌++◌, append_assoc, append-nil}
 use Rattle.std.proofs.Math.Path.{refl}
-use Rattle.std.proofs.Common.{sym, ap, ◌∙◌, add-one, arith, le-leb, leb-false}
+use Rattle.std.proofs.Common.{sym, ap, ◌∙◌, add-one, arith, le-leb, leb-true, leb-false}
+use Rattle.std.proofs.lemmas.List.Quantifiers.{position-Some}
+use Rattle.std.proofs.lemmas.List.Sums.{fails_before_first}
+use Rattle.std.proofs.lemmas.Grind.{common_steps}
+use borrow.Author.Tests.{not-true, not-false}
+use Rattle.std.specs.List.{position_or_len}
 use Rattle.std.proofs.Math.Decide.{ℕ_discrete}
 use Rattle.std.proofs.Math.IntN.{ℤ}
 use Rattle.std.proofs.Math.ListN.{length-set}
@@ -32,6 +37,24 @@ module _ (N : ℕ) (v : List ℤ) where
 
   pub read_none : Clear v N → first_read N v ≡ 0
   read_none h = none-beyond bound v (up_to N) (λ k m. h k (read_below N k m))
+
+-- whether a number is beyond the bound; the first that is, or 0, is the one that is named
+abbrev pub beyond : ℤ → Bool
+beyond z = not (leb (nat_abs z) bound)
+
+fine : (v : List ℤ) (k : ℕ) → beyond (at v k) ≡ false → Within bound (at v k)
+fine v k e = record { within = leb-true (nat_abs (at v k)) bound (not-false _ e) }
+
+none-there : (v : List ℤ) → None ≡ position beyond v → length v ≤ position_or_len beyond v
+none-there v e = grind (arith, common_steps)
+
+pub position-read : (v : List ℤ) (o : Option ℕ) → o ≡ position beyond v → unwrap_or o 0 ≡ first_read (length v) v
+position-read v None e =
+    let n = none-there v e in
+    sym (read_none (length v) v (λ k l. fine v k (fails_before_first beyond v k (pos 0) (omega arith))))
+position-read v (Some i) e =
+    let h = position-Some beyond v i (pos 0) (sym e) in
+    sym (read_first (length v) v i h.0 (λ k l. fine v k (h.2 k l)) (not-true _ h.1))
 
 -- ---- the numbers that are made
 module _ (rule : Rule) (N S : ℕ) (d : ℕ → ℤ) (w : ℕ → ℕ → ℤ) where
@@ -81,10 +104,15 @@ module _ (find : List ℕ → List ℤ → ℕ) where
     pub small : Bounded bound x
     pub long : length x ≡ length v
 
-  -- as the code tells it
+  -- as the code tells it: of one element
   pub record Went (es : List ℕ) (on : Bool) (e : ℕ) (v x : List ℤ) : Type 0 where
     pub stops : on ≡ false → Found es v e
     pub goes : on ≡ true → Passed es v x
+
+  -- of many
+  abbrev pub Looked : List ℕ → Option ℕ → List ℤ → List ℤ → Type 0
+  Looked es None v x = Passed es v x
+  Looked es (Some e) v x = Found es v e
 
 module _ {find : List ℕ → List ℤ → ℕ} where
   pub passed_none : {v : List ℤ} → Bounded bound v → Passed find [] v v
@@ -116,9 +144,6 @@ module _ {find : List ℕ → List ℤ → ℕ} where
 
   pub went_on : {es : List ℕ} {e : ℕ} {v x : List ℤ} → Passed find es v x → Went find es true e v x
   went_on p = record { stops = λ b. apart b; goes = λ b. p }
-
-  pub went_to : {es : List ℕ} {e : ℕ} {v x : List ℤ} → Found find es v e → Went find es false e v x
-  went_to q = record { stops = λ b. q; goes = λ b. apart (sym b) }
 
 -- ---- an order that is made step by step: after g n come the elements h n
 pub record Grows (g h : ℕ → List ℕ) : Type 0 where

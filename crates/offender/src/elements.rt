@@ -1,12 +1,9 @@
 // One element of a stage with weights, applied and undone: its sum over all the others, rounded, and its sign. In 64 bits.
-ghost use Rattle.std.specs.Prelude.{◌≡◌, ◌<◌, ◌+ℤ◌, ◌*ℤ◌};
-ghost use Rattle.std.specs.Int.{w64};
-ghost use Rattle.std.proofs.Common.{SFits};
+ghost use Rattle.std.specs.Prelude.{◌≡◌, ◌<◌};
 ghost use Rattle.rules.specs.Stages.{R, off, weighed};
 ghost use Rattle.offender.specs.RefusedStages.{Weighed, Given, cells, scale_by, weight_of, made_of};
 
 use crate::weights::{Refused, Shape, cells_of, sign_at, weight_at};
-use factor::bounds::wide;
 use factor::rounding::{applied, round_joint, round_line, undone};
 use factor::run::{is_down, is_even};
 use rules::Rule;
@@ -18,17 +15,10 @@ fn off_at(q: Refused, col: &[i32], row: &[i32], e: usize, k: usize) -> i64
     ensures { result ≡ off (weight_of q col.now row.now) e k }
 {
     if e == k {
-        return 0;
+        0
+    } else {
+        weight_at(q, col, row, e, k)
     }
-    weight_at(q, col, row, e, k)
-}
-
-// One term more.
-fn with_product(sum: i64, w: i64, x: i64) -> i64
-    requires { SFits w64 (w *ℤ x) × SFits w64 (sum +ℤ (w *ℤ x)) }
-    ensures { result ≡ sum +ℤ (w *ℤ x) }
-{
-    sum + w * x
 }
 
 // The sum of element e.
@@ -37,10 +27,9 @@ fn off_sum(q: Refused, col: &[i32], row: &[i32], e: usize, x: &[i32]) -> i64
     requires { Given q col.now row.now x.now × (e < cells q) }
     ensures { result ≡ weighed (cells q) (off (weight_of q col.now row.now) e) x.now }
 {
-    let n = cells_of(q);
     let mut sum: i64 = 0;
-    for k in 0..n {
-        sum = with_product(sum, off_at(q, col, row, e, k), wide(x[k]));
+    for k in 0..cells_of(q) {
+        sum += off_at(q, col, row, e, k) * i64::from(x[k]);
     }
     sum
 }
@@ -52,13 +41,12 @@ fn rounded_sum(rule: Rule, q: Refused, col: &[i32], row: &[i32], e: usize, x: &[
     ensures { result ≡ R rule (scale_by q.shape)
         (weighed (cells q) (off (weight_of q col.now row.now) e) x.now) }
 {
-    let shape = q.shape;
     let s = off_sum(q, col, row, e, x);
     let down = is_down(rule);
     let even = is_even(rule);
-    match shape {
-        Shape::Joint => return round_joint(down, even, s),
-        Shape::Pass => return round_line(down, even, s),
+    match q.shape {
+        Shape::Joint => round_joint(down, even, s),
+        Shape::Pass { .. } => round_line(down, even, s),
     }
 }
 
@@ -78,7 +66,8 @@ pub fn element_at(
     let d = sign_at(q, col, row, e);
     let s = rounded_sum(rule, q, col, row, e, x);
     if back {
-        return undone(d, x[e], s);
+        undone(d, x[e], s)
+    } else {
+        applied(d, x[e], s)
     }
-    applied(d, x[e], s)
 }

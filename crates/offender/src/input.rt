@@ -2,7 +2,6 @@
 ghost use Rattle.std.specs.Prelude.{◌≡◌, length};
 ghost use Rattle.rules.specs.Stages.{first_read};
 
-use factor::bounds::wide;
 use factor::rounding::is_within;
 use rules::Block;
 
@@ -10,11 +9,7 @@ use rules::Block;
 pub fn first_beyond(x: &[i32]) -> usize
     ensures { result ≡ first_read (length x.now) x.now }
 {
-    let n = x.len();
-    for e in 0..n {
-        if !is_within(wide(x[e]), Block::SAMPLE) {
-            return e;
-        }
-    }
-    0
+    x.iter()
+        .position(|z| !is_within(i64::from(*z), Block::SAMPLE))
+        .unwrap_or(0)
 }

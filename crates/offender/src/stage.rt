@@ -21,11 +21,7 @@ use factor::{is_move, layout_at};
 fn is_naming(task: Task) -> bool
     ensures { result ≡ is_naming task }
 {
-    match task {
-        Task::Forward => return true,
-        Task::Inverse => return true,
-        Task::Allowance => return false,
-    }
+    !matches!(task, Task::Allowance)
 }
 
 // Moved numbers stay in bound, so a permutation is never refused; nor is an element of an allowance ever named.
@@ -34,17 +30,10 @@ fn element(run: Run, q: Refused, col: &[i32], row: &[i32], x: &mut [i32]) -> usi
     ensures { result ≡ name_after run.task (cells q) (stage_of q col.now row.now)
         (taken_by run (cells q) (stage_of q col.now row.now) x.old) }
 {
-    let task = run.task;
-    let rule = run.rule;
-    let n = q.n1;
-    let i = q.i;
-    if is_move(layout_at(col, n, i)) {
+    if is_move(layout_at(col, q.n1, q.i)) || !is_naming(run.task) {
         return 0;
     }
-    if !is_naming(task) {
-        return 0;
-    }
-    first_found(is_inverse(task), rule, q, col, row, x)
+    first_found(is_inverse(run.task), run.rule, q, col, row, x).unwrap_or(0)
 }
 
 // A stage of a rectangle that is refused, and the block before it: the element that the answer names. The block is used up.
@@ -68,7 +57,6 @@ pub fn joint_element(
 {
     let q = Refused {
         shape: Shape::Joint,
-        down: false,
         n1,
         n2,
         i,
@@ -95,8 +83,7 @@ pub fn pass_element(
         (taken_by run (many * n) (pass_stage (lines_by columns many n) (factor_at sheet.now n i)) x.old) }
 {
     let q = Refused {
-        shape: Shape::Pass,
-        down: columns,
+        shape: Shape::Pass { down: columns },
         n1: n,
         n2: many,
         i,

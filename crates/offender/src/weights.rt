@@ -1,8 +1,6 @@
 // The numbers of a stage, each as its definition says it: the matrix of a factor, and by the stage's shape how many elements it
 // has, their signs, their weights and their turns. A permutation has none of these, and does not come here.
-ghost use Rattle.std.specs.Prelude.{true, cond, ◌≢◌, ◌≡◌, ◌*◌, ◌≤◌, ◌<◌, eqb, ◌*ℤ◌};
-ghost use Rattle.std.specs.Int.{w32, w64};
-ghost use Rattle.std.proofs.Common.{SFits};
+ghost use Rattle.std.specs.Prelude.{true, cond, ◌≢◌, ◌≡◌, ◌*◌, ◌≤◌, ◌<◌, eqb};
 ghost use Rattle.rules.specs.Numbers.{most_order, count};
 ghost use Rattle.rules.specs.Sheets.{kind_of};
 ghost use Rattle.rules.specs.Factors.{has_entry, entries_before, factor_at, matrix};
@@ -12,23 +10,22 @@ ghost use Rattle.factor.specs.LayoutInSheet.{Paired};
 ghost use Rattle.offender.specs.RefusedStages.{Small, HasWeights, Weighed, lines, cells, turns};
 ghost use Rattle.offender.specs.RefusedStages.{sign_of, weight_of, turn_of};
 
-use factor::bounds::wide;
 use factor::{before_lower, before_upper, layout_at};
 use rules::{Kind, Scale};
 
 // What a stage is made of: a pair of factors of a rectangle, or a factor along every line of one.
+// The lines of a pass go down, or are rows.
 #[derive(Clone, Copy)]
 pub enum Shape {
     Joint,
-    Pass,
+    Pass { down: bool },
 }
 
 // The stage that is refused: its shape, and the orders and the places of its factors in the two sheets. A pass has one factor, of
-// n1 numbers, along n2 lines, which go down or are rows; its place stands twice here.
+// n1 numbers, along n2 lines; its place stands twice here.
 #[derive(Clone, Copy)]
 pub struct Refused {
     pub shape: Shape,
-    pub down: bool,
     pub n1: usize,
     pub n2: usize,
     pub i: usize,
@@ -41,10 +38,10 @@ fn has_entry(kind: Kind, r: usize, m: usize, k: usize) -> bool
     ensures { result ≡ has_entry kind r m k }
 {
     match kind {
-        Kind::Permutation => return false,
-        Kind::Lower => return k < m,
-        Kind::Upper => return m < k,
-        Kind::Single => return m == r,
+        Kind::Permutation => false,
+        Kind::Lower => k < m,
+        Kind::Upper => m < k,
+        Kind::Single => m == r,
     }
 }
 
@@ -55,15 +52,10 @@ fn entries_before(kind: Kind, n: usize, r: usize, m: usize, k: usize) -> usize
     ensures { result ≡ entries_before kind n r m k }
 {
     match kind {
-        Kind::Permutation => return 0,
-        Kind::Lower => return before_lower(m) + k,
-        Kind::Upper => return before_upper(n, m) + (k - 1 - m),
-        Kind::Single => {
-            if k < r {
-                return k;
-            }
-            return k - 1;
-        }
+        Kind::Permutation => 0,
+        Kind::Lower => before_lower(m) + k,
+        Kind::Upper => before_upper(n, m) + (k - 1 - m),
+        Kind::Single => { if k < r { k } else { k - 1 } }
     }
 }
 
@@ -73,17 +65,13 @@ fn matrix_at(sheet: &[i32], n: usize, i: usize, m: usize, k: usize) -> i64
     ensures { result ≡ matrix (factor_at sheet.now n i) m k }
 {
     let f = layout_at(sheet, n, i);
-    let kind = f.kind;
-    let row = f.row;
-    let signs = f.signs;
-    let entries = f.entries;
     if m == k {
-        return product(Scale::LINE, wide(sheet[signs + m]));
+        return Scale::LINE * i64::from(sheet[f.signs + m]);
     }
-    if !has_entry(kind, row, m, k) {
+    if !has_entry(f.kind, f.row, m, k) {
         return 0;
     }
-    wide(sheet[entries + entries_before(kind, n, row, m, k)])
+    i64::from(sheet[f.entries + entries_before(f.kind, n, f.row, m, k)])
 }
 
 // The sign of row m of the factor at i.
@@ -91,23 +79,7 @@ fn sign_of(sheet: &[i32], n: usize, i: usize, m: usize) -> i32
     requires { HasWeights sheet.now n i × (m < n) }
     ensures { result ≡ (factor_at sheet.now n i).sign m }
 {
-    let f = layout_at(sheet, n, i);
-    let signs = f.signs;
-    sheet[signs + m]
-}
-
-fn product(a: i64, b: i64) -> i64
-    requires { SFits w64 (a *ℤ b) }
-    ensures { result ≡ a *ℤ b }
-{
-    a * b
-}
-
-fn both_signs(d: i32, e: i32) -> i32
-    requires { SFits w32 (d *ℤ e) }
-    ensures { result ≡ d *ℤ e }
-{
-    d * e
+    sheet[layout_at(sheet, n, i).signs + m]
 }
 
 // How many elements the block has.
@@ -116,10 +88,9 @@ pub fn cells_of(q: Refused) -> usize
     requires { Small q }
     ensures { result ≡ cells q }
 {
-    let shape = q.shape;
-    match shape {
-        Shape::Joint => return q.n1 * q.n2,
-        Shape::Pass => return q.n2 * q.n1,
+    match q.shape {
+        Shape::Joint => q.n1 * q.n2,
+        Shape::Pass { .. } => q.n2 * q.n1,
     }
 }
 
@@ -132,35 +103,28 @@ pub fn turns_of(back: bool, q: Refused) -> usize
     if !back {
         return 1;
     }
-    let shape = q.shape;
-    match shape {
-        Shape::Joint => return q.n1 * q.n2 + 4,
-        Shape::Pass => return q.n2 * (q.n1 + 4),
+    match q.shape {
+        Shape::Joint => q.n1 * q.n2 + 4,
+        Shape::Pass { .. } => q.n2 * (q.n1 + 4),
     }
 }
 
 // The line of a pass in which element e is.
 #[tactic(auto, unfolding(factor::specs::PassLines::lines_by))]
-fn line_of(q: Refused, e: usize) -> usize
+fn line_of(q: Refused, down: bool, e: usize) -> usize
     requires { (1 ≤ q.n1) × (1 ≤ q.n2) }
-    ensures { result ≡ (lines q).line e }
+    ensures { result ≡ (lines q down).line e }
 {
-    if q.down {
-        return e % q.n2;
-    }
-    e / q.n1
+    if down { e % q.n2 } else { e / q.n1 }
 }
 
 // Its place in that line.
 #[tactic(auto, unfolding(factor::specs::PassLines::lines_by))]
-fn spot_of(q: Refused, e: usize) -> usize
+fn spot_of(q: Refused, down: bool, e: usize) -> usize
     requires { (1 ≤ q.n1) × (1 ≤ q.n2) }
-    ensures { result ≡ (lines q).spot e }
+    ensures { result ≡ (lines q down).spot e }
 {
-    if q.down {
-        return e / q.n2;
-    }
-    e % q.n1
+    if down { e / q.n2 } else { e % q.n1 }
 }
 
 // The sign of element e.
@@ -169,27 +133,23 @@ pub fn sign_at(q: Refused, col: &[i32], row: &[i32], e: usize) -> i32
     requires { Weighed q col.now row.now × (e < cells q) }
     ensures { result ≡ sign_of q col.now row.now e }
 {
-    let shape = q.shape;
-    let n = q.n2;
-    match shape {
-        Shape::Joint => {
-            return both_signs(sign_of(col, q.n1, q.i, e / n), sign_of(row, n, q.j, e % n));
-        }
-        Shape::Pass => return sign_of(col, q.n1, q.i, spot_of(q, e)),
+    match q.shape {
+        Shape::Joint => sign_of(col, q.n1, q.i, e / q.n2) * sign_of(row, q.n2, q.j, e % q.n2),
+        Shape::Pass { down } => sign_of(col, q.n1, q.i, spot_of(q, down, e)),
     }
 }
 
 // The weight of element k in the sum of element e of a pass: of its own line.
 #[tactic(auto, unfolding(rules::specs::Shapes::pass_weight))]
-fn pass_weight(q: Refused, sheet: &[i32], e: usize, k: usize) -> i64
+fn pass_weight(q: Refused, down: bool, sheet: &[i32], e: usize, k: usize) -> i64
     requires { HasWeights sheet.now q.n1 q.i × (1 ≤ q.n1) × (1 ≤ q.n2) × (e < q.n2 * q.n1)
         × (k < q.n2 * q.n1) }
-    ensures { result ≡ pass_weight (lines q) (factor_at sheet.now q.n1 q.i) e k }
+    ensures { result ≡ pass_weight (lines q down) (factor_at sheet.now q.n1 q.i) e k }
 {
-    if line_of(q, e) != line_of(q, k) {
+    if line_of(q, down, e) != line_of(q, down, k) {
         return 0;
     }
-    matrix_at(sheet, q.n1, q.i, spot_of(q, e), spot_of(q, k))
+    matrix_at(sheet, q.n1, q.i, spot_of(q, down, e), spot_of(q, down, k))
 }
 
 // The same of any shape.
@@ -198,16 +158,12 @@ pub fn weight_at(q: Refused, col: &[i32], row: &[i32], e: usize, k: usize) -> i6
     requires { Weighed q col.now row.now × (e < cells q) × (k < cells q) }
     ensures { result ≡ weight_of q col.now row.now e k }
 {
-    let shape = q.shape;
-    let n = q.n2;
-    match shape {
+    match q.shape {
         Shape::Joint => {
-            return product(
-                matrix_at(col, q.n1, q.i, e / n, k / n),
-                matrix_at(row, n, q.j, e % n, k % n),
-            );
+            matrix_at(col, q.n1, q.i, e / q.n2, k / q.n2)
+                * matrix_at(row, q.n2, q.j, e % q.n2, k % q.n2)
         }
-        Shape::Pass => return pass_weight(q, col, e, k),
+        Shape::Pass { down } => pass_weight(q, down, col, e, k),
     }
 }
 
@@ -215,10 +171,7 @@ pub fn weight_at(q: Refused, col: &[i32], row: &[i32], e: usize, k: usize) -> i6
 fn in_row(row: usize, m: usize) -> usize
     ensures { (result ≡ cond (eqb m row) 1 0) × (result ≤ 1) }
 {
-    if m == row {
-        return 1;
-    }
-    0
+    usize::from(m == row)
 }
 
 // The turn of number m of n, by the kind and what the number shares with the single rows.
@@ -228,10 +181,9 @@ fn turn_of(kind: Kind, n: usize, shared: usize, m: usize) -> usize
     ensures { result ≡ turn kind n shared m }
 {
     match kind {
-        Kind::Permutation => return m,
-        Kind::Lower => return m,
-        Kind::Upper => return n - 1 - m,
-        Kind::Single => return shared,
+        Kind::Permutation | Kind::Lower => m,
+        Kind::Upper => n - 1 - m,
+        Kind::Single => shared,
     }
 }
 
@@ -241,8 +193,7 @@ fn line_turn(sheet: &[i32], n: usize, i: usize, m: usize) -> usize
     ensures { result ≡ turn (kind_of (count sheet.now i)) n (in_row (factor_at sheet.now n i) m) m }
 {
     let f = layout_at(sheet, n, i);
-    let kind = f.kind;
-    turn_of(kind, n, in_row(f.row, m), m)
+    turn_of(f.kind, n, in_row(f.row, m), m)
 }
 
 // In a rectangle.
@@ -255,9 +206,8 @@ fn joint_turn(q: Refused, col: &[i32], row: &[i32], e: usize) -> usize
     let n = q.n2;
     let f = layout_at(col, q.n1, q.i);
     let g = layout_at(row, n, q.j);
-    let kind = f.kind;
     turn_of(
-        kind,
+        f.kind,
         q.n1 * n,
         in_row(f.row, e / n) + 2 * in_row(g.row, e % n),
         e,
@@ -266,11 +216,11 @@ fn joint_turn(q: Refused, col: &[i32], row: &[i32], e: usize) -> usize
 
 // In a pass: line after line.
 #[tactic(auto, unfolding(rules::specs::Factors::factor_at))]
-fn pass_turn(q: Refused, sheet: &[i32], e: usize) -> usize
+fn pass_turn(q: Refused, down: bool, sheet: &[i32], e: usize) -> usize
     requires { Small q × FactorRead sheet.now q.n1 q.i × (1 ≤ q.n1) × (1 ≤ q.n2) × (e < q.n2 * q.n1) }
-    ensures { result ≡ pass_turn (lines q) (factor_at sheet.now q.n1 q.i) e }
+    ensures { result ≡ pass_turn (lines q down) (factor_at sheet.now q.n1 q.i) e }
 {
-    line_of(q, e) * (q.n1 + 4) + line_turn(sheet, q.n1, q.i, spot_of(q, e))
+    line_of(q, down, e) * (q.n1 + 4) + line_turn(sheet, q.n1, q.i, spot_of(q, down, e))
 }
 
 // The turn in which element e is looked at.
@@ -282,9 +232,8 @@ pub fn turn_at(back: bool, q: Refused, col: &[i32], row: &[i32], e: usize) -> us
     if !back {
         return 0;
     }
-    let shape = q.shape;
-    match shape {
-        Shape::Joint => return joint_turn(q, col, row, e),
-        Shape::Pass => return pass_turn(q, col, e),
+    match q.shape {
+        Shape::Joint => joint_turn(q, col, row, e),
+        Shape::Pass { down } => pass_turn(q, down, col, e),
     }
 }

@@ -9,7 +9,7 @@ ghost use Rattle.pairmoves.specs.Moves.{source_of, Lines, MovedBySheet};
 ghost use Rattle.pairmoves.specs.MovedAside.{Places, place_at, moved_row, MovedInto};
 
 use factor::Layout;
-use factor::moves::{either, move_line};
+use factor::moves::move_line;
 use factor::run::{Task, is_inverse};
 use rules::Block;
 use sheetread::factors::count_at;
@@ -33,8 +33,7 @@ fn move_row(
 {
     for j in 0..n {
         let place = count_at(row, q + j);
-        let to = either(back, place, j);
-        let from = either(back, j, place);
+        let (to, from) = if back { (place, j) } else { (j, place) };
         x[k + to] = old[o + from];
     }
 }
@@ -59,9 +58,8 @@ fn move_rows(
 {
     for i in 0..n1 {
         let place = count_at(col, p + i);
-        let to = either(back, place, i) * n2;
-        let from = either(back, i, place) * n2;
-        move_row(row, q, n2, back, old, from, x, to);
+        let (to, from) = if back { (place, i) } else { (i, place) };
+        move_row(row, q, n2, back, old, from * n2, x, to * n2);
     }
 }
 
@@ -84,13 +82,11 @@ pub fn move_into(
         x.old x.new }
 {
     let back = is_inverse(task);
-    if n2 == 4 {
-        return move_rows(col, p, n1, row, q, 4, back, old, x);
+    match n2 {
+        4 => move_rows(col, p, n1, row, q, 4, back, old, x),
+        8 => move_rows(col, p, n1, row, q, 8, back, old, x),
+        _ => move_rows(col, p, n1, row, q, n2, back, old, x),
     }
-    if n2 == 8 {
-        return move_rows(col, p, n1, row, q, 8, back, old, x);
-    }
-    move_rows(col, p, n1, row, q, n2, back, old, x)
 }
 
 // Lines that each start w places after the one before it, their numbers s apart: the rows of a block, or its columns.

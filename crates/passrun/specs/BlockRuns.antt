@@ -1,18 +1,17 @@
 -- A BLOCK THROUGH ONE PASS OR TWO: the sizes and the stages as the document has them, by whether the first pass goes down the
 -- columns, and what a run of a block asks and gives. Definitions for the code.
-use Rattle.std.specs.Prelude.{Bool, true, false, List, ◌++◌, ◌⊎◌, ◌≡◌, ℕ, ◌*◌, ◌≤◌, ℤ, pos, length, replicate, take}
+use Rattle.std.specs.Prelude.{Bool, true, false, Result, List, ◌++◌, ◌⊎◌, ◌≡◌, ℕ, ◌*◌, ◌≤◌, ℤ, pos, length, replicate, take}
 use Rattle.rules.specs.Numbers.{most_order, most_cells, bound, at, count}
 use Rattle.rules.specs.Factors.{factors}
 use Rattle.rules.specs.Stages.{Stage, Ran, fill, inside}
 use Rattle.rules.specs.Shapes.{Lines, pass_stages}
 use Rattle.rules.specs.Calls.{Gives}
-use Rattle.laws.specs.Accepted.{Accepted}
 use Rattle.laws.specs.AnswersInTurn.{ran_reply}
-use Rattle.sheetread.specs.Starts.{Starts}
 use Rattle.factor.specs.declared.run.Run.{Run}
-use Rattle.factor.specs.declared.run.Outcome.{Outcome}
+use Rattle.factor.specs.declared.run.Place.{Place}
+use Rattle.factor.specs.Outcomes.{Outcome, ended_answer}
 use Rattle.factor.specs.SumBounds.{Bounded}
-use Rattle.factor.specs.Tasks.{is_inverse, limit_of, inputs_of, number_of, end_answer, taken_by, name_after, ran}
+use Rattle.factor.specs.Tasks.{is_inverse, limit_of, inputs_of, number_of, taken_by, name_after, ran}
 use Rattle.factor.specs.PassLines.{lines_by}
 use Rattle.passrun.specs.Laid.{laid}
 use Rattle.passrun.specs.PassRuns.{stage_in_turn, pass_run, PassProgress, Reached}
@@ -56,37 +55,27 @@ two_stages false a z = second_stages false a z ++ first_stages false a z
 unfoldable pub start_block : ℕ → List ℤ → List ℤ
 start_block N x = fill (length x) (at x) (replicate N (pos 0))
 
--- ---- what a run asks, and what it gives: ok, the output z and the pair, for the numbers x over the output y
-pub record OneAsks (columns : Bool) (run : Run) (s : List ℤ) (starts : List ℕ) (many : ℕ) (x y : List ℤ) (pair : List ℕ) :
-    Type 0 where
-  pub sheet : Accepted s
-  pub places : Starts s starts
+-- ---- what a run asks, and what it gives: its end and the output z, for the numbers x over the output y
+pub record OneAsks (columns : Bool) (run : Run) (s : List ℤ) (many : ℕ) (x y : List ℤ) : Type 0 where
   pub some : 1 ≤ many
   pub most : many ≤ most_order
   pub input : length x ≡ inputs_of run.task (one_size columns many s)
   pub output : length y ≡ one_size columns many s
-  pub two : length pair ≡ 2
 
-abbrev pub OneGives : Bool → Run → List ℤ → ℕ → List ℤ → List ℤ → Bool → List ℤ → List ℕ → Type 0
-OneGives columns run s many x y ok z pair =
-    Gives (end_answer (number_of run.task) ok pair) z
+abbrev pub OneGives : Bool → Run → List ℤ → ℕ → List ℤ → List ℤ → Result (Unit {0}) Place → List ℤ → Type 0
+OneGives columns run s many x y end z =
+    Gives (ended_answer (number_of run.task) end) z
     (ran_reply (number_of run.task) (ran run (one_size columns many s) (one_stages columns many s) x) y)
 
 -- rows are undone first: an inverse run, and no other, begins along the rows
-pub record TwoAsks (columns : Bool) (run : Run) (a z : List ℤ) (first second : List ℕ) (x y : List ℤ) (pair : List ℕ) :
-    Type 0 where
+pub record TwoAsks (columns : Bool) (run : Run) (a z x y : List ℤ) : Type 0 where
   pub way : columns ≡ other (is_inverse run.task)
-  pub one : Accepted a
-  pub next : Accepted z
-  pub ones : Starts a first
-  pub nexts : Starts z second
   pub input : length x ≡ inputs_of run.task (two_size columns a z)
   pub output : length y ≡ two_size columns a z
-  pub two : length pair ≡ 2
 
-abbrev pub TwoGives : Bool → Run → List ℤ → List ℤ → List ℤ → List ℤ → Bool → List ℤ → List ℕ → Type 0
-TwoGives columns run a z x y ok w pair =
-    Gives (end_answer (number_of run.task) ok pair) w
+abbrev pub TwoGives : Bool → Run → List ℤ → List ℤ → List ℤ → List ℤ → Result (Unit {0}) Place → List ℤ → Type 0
+TwoGives columns run a z x y end w =
+    Gives (ended_answer (number_of run.task) end) w
     (ran_reply (number_of run.task) (ran run (two_size columns a z) (two_stages columns a z) x) y)
 
 -- ---- what the parts of a run ask and give
@@ -118,10 +107,8 @@ abbrev pub one_run : Bool → Run → List ℤ → ℕ → List ℤ → Ran
 one_run columns run s many x =
     pass_run run (one_size columns many s) (one_lines columns many s) s (start_block (one_size columns many s) x)
 
--- what it asks of the sheet, the lines and the numbers
-pub record PassAsks (columns : Bool) (run : Run) (s : List ℤ) (starts : List ℕ) (many : ℕ) (x : List ℤ) : Type 0 where
-  pub sheet : Accepted s
-  pub places : Starts s starts
+-- what it asks of the lines and the numbers
+pub record PassAsks (columns : Bool) (run : Run) (s : List ℤ) (many : ℕ) (x : List ℤ) : Type 0 where
   pub some : 1 ≤ many
   pub most : many ≤ most_order
   pub input : length x ≡ inputs_of run.task (one_size columns many s)

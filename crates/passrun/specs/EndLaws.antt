@@ -6,6 +6,7 @@ use Rattle.std.proofs.Common.{sym, ap, ◌∙◌, arith}
 use Rattle.rules.specs.declared.Rule.{Rule}
 use Rattle.rules.specs.Numbers.{most_order, most_cells, bound, count}
 use Rattle.rules.specs.Stages.{Stage, Ran, done, beyond, later, run, inside, run_forward, run_inverse, run_allowance}
+use Rattle.rules.specs.Answers.{accepted, refused_at}
 use Rattle.rules.specs.Calls.{Gives, reply, ran_answer, ran_memory}
 use Rattle.rules.proofs.Laws.Runs.{follow, cut}
 use Rattle.rules.proofs.Laws.Passes.{passes_count}
@@ -16,14 +17,12 @@ use Rattle.laws.specs.Passes.{factors-count}
 use Rattle.factor.specs.declared.run.Task.{Task}
 use Rattle.factor.specs.declared.run.Task.TheVariants.{Forward, Inverse, Allowance}
 use Rattle.factor.specs.declared.run.Run.{Run}
-use Rattle.factor.specs.Tasks.{is_inverse, limit_of, inputs_of, number_of, end_answer, in_order, stage_by, taken_by, name_first, name_after}
+use Rattle.factor.specs.Tasks.{is_inverse, limit_of, inputs_of, number_of, in_order, stage_by, taken_by, name_first, name_after}
 use Rattle.factor.specs.Tasks.{run_by, ran_by, ran}
-use Rattle.factor.specs.declared.run.Outcome.{Outcome}
+use Rattle.factor.specs.Outcomes.{Outcome}
 use Rattle.factor.specs.SumBounds.{Bounded}
 use Rattle.factor.specs.StageLoops.{Refused}
 use Rattle.factor.specs.PassLines.{lines_by}
-use Rattle.factor.specs.RunReplies.{noted}
-use Rattle.sheetread.specs.Starts.{Starts}
 use Rattle.passrun.specs.Laid.{laid, laid-bounded}
 use Rattle.passrun.specs.Layout.{turned}
 use Rattle.passrun.specs.PassRuns.{pass_run, PassDone, pass-starts, pass-ends, Reached, reaches, refused-passes, names-next}
@@ -44,17 +43,17 @@ pub ran-is : (run : Run) (N : ℕ) (ss : List Stage) (x : List ℤ) → length x
 ran-is run N ss x l = start-by run.task run.rule N ss x l
 
 -- ---- the reply
-pub ends-refused : (task : Task) {ran : Ran} (y : List ℤ) {s e : ℕ} {pair : List ℕ} → ran ≡ beyond s e → pair ≡ s ∷ e ∷ [] →
-    Gives (end_answer (number_of task) false pair) y (ran_reply (number_of task) ran y)
+pub ends-refused : (task : Task) {ran : Ran} (y : List ℤ) {s e : ℕ} → ran ≡ beyond s e →
+    Gives (refused_at (number_of task) 0 s e) y (ran_reply (number_of task) ran y)
 unfolding reply ran_answer ran_memory number_of
-ends-refused Forward y h p = rw (h, noted p) (refl, refl)
-ends-refused Inverse y h p = rw (h, noted p) (refl, refl)
-ends-refused Allowance y h p = rw (h, noted p) (refl, refl)
+ends-refused Forward y h = rw h (refl, refl)
+ends-refused Inverse y h = rw h (refl, refl)
+ends-refused Allowance y h = rw h (refl, refl)
 
-pub ends-done : (number : ℕ) {ran : Ran} (y : List ℤ) {v z : List ℤ} (pair : List ℕ) → ran ≡ done v → z ≡ v →
-    Gives (end_answer number true pair) z (ran_reply number ran y)
-unfolding reply ran_answer ran_memory end_answer
-ends-done number y pair h e = rw (h, e) (refl, refl)
+pub ends-done : (number : ℕ) {ran : Ran} (y : List ℤ) {v z : List ℤ} → ran ≡ done v → z ≡ v →
+    Gives accepted z (ran_reply number ran y)
+unfolding reply ran_answer ran_memory
+ends-done number y h e = rw (h, e) (refl, refl)
 
 -- ---- two passes
 -- the second on what the first gave
@@ -117,11 +116,7 @@ unfolding follow later
 both-done k next h g = rw (h, g)
 
 -- ---- what two passes ask, and how they end
-pub record PairAsks (columns : Bool) (run : Run) (a z : List ℤ) (first second : List ℕ) (x : List ℤ) : Type 0 where
-  pub one : Accepted a
-  pub next : Accepted z
-  pub ones : Starts a first
-  pub nexts : Starts z second
+pub record PairAsks (columns : Bool) (run : Run) (a z x : List ℤ) : Type 0 where
   pub input : length x ≡ inputs_of run.task (two_size columns a z)
   pub inner : inside bound (length x) x ≡ true
 
@@ -147,15 +142,12 @@ pub record TwoEnded (columns : Bool) (run : Run) (a z x : List ℤ) (end : Outco
   pub stops : end.ok ≡ false → PairRefused columns run a z x end.stage
   pub wide : length b ≡ most_cells
 
-module _ (columns : Bool) (run : Run) {a z : List ℤ} {first second : List ℕ} {x : List ℤ}
-    (h : PairAsks columns run a z first second x) where
+module _ (columns : Bool) (run : Run) {a z x : List ℤ} (h : PairAsks columns run a z x) where
   -- the first pass asks no more
-  pub first-asks : PassAsks columns run a first (count z 0) x
-  first-asks = record {
-    sheet = h.one;
-    places = h.ones;
-    some = (accepted-order h.next).least;
-    most = (accepted-order h.next).most;
+  pub first-asks : Accepted z → PassAsks columns run a (count z 0) x
+  first-asks f = record {
+    some = (accepted-order f).least;
+    most = (accepted-order f).most;
     input = h.input;
     inner = h.inner;
   }

@@ -1,9 +1,10 @@
 -- NUMBERS COPIED BETWEEN TWO LAYOUTS, and rows and columns that change places: as the code goes through them, and where each
 -- number is then.
-use Rattle.std.specs.Prelude.{List, ◌≢◌, ◌≡◌, ℤ, length, set}
-use Rattle.std.proofs.Math.Path.{refl}
-use Rattle.std.proofs.Common.{◌∙◌, add-one}
-use Prim.Native.Nat.{ℕ, zero, suc, ◌+◌, ◌*◌, ◌≤◌, ◌<◌, min, max}
+use Rattle.std.specs.Prelude.{List, ◌≢◌, ◌≡◌, ℤ, pos, length, set}
+use Rattle.std.specs.List.{CopiedTo, SameBelow, SameFrom}
+use Rattle.std.proofs.Math.Path.{refl, sym, ap}
+use Rattle.std.proofs.Common.{◌∙◌, add-one, ext_get_or}
+use Prim.Native.Nat.{ℕ, zero, suc, ◌+◌, ◌-◌, ◌*◌, ◌≤◌, ◌<◌, min, max}
 use Rattle.std.proofs.Math.Decide.{ℕ_discrete, dec_lt}
 use Rattle.std.proofs.Math.Nat as NatL
 use native.Mathlib.Omega.{arith}
@@ -236,14 +237,27 @@ turning-bounded few (suc n) h = exchanged-bounded n (min n few) (turning-bounded
 pub rows-near : (i : ℕ) {n : ℕ} → n ≤ most_order → i * n ≤ i * most_order
 rows-near i l = NatL.mul-le-mul_left i l
 
--- a number of row i is read before anything is written there
-pub close-ahead : (i n j : ℕ) (x : List ℤ) → n ≤ most_order →
-    at (scattered j (λ e. i * n + e) (λ e. at x (i * most_order + e)) x) (i * most_order + j) ≡ at x (i * most_order + j)
-close-ahead i n j x l =
-    scattered-other j (λ e. i * n + e) (λ e. at x (i * most_order + e)) x (i * most_order + j)
-    (λ m b e. let h = rows-near i l in omega arith)
+-- numbers side by side that are moved to another place
+pub shifted : (s d n : ℕ) (y : List ℤ) {z : List ℤ} → length z ≡ length y → d + n ≤ length y → CopiedTo y z s d n → SameBelow y z d →
+    SameFrom y z (d + n) → z ≡ scattered n (λ j. d + j) (λ j. at y (s + j)) y
+shifted s d n y {z} l room h b f =
+    ext_get_or (pos 0) _ _ (l ∙ sym (length-scattered n (λ j. d + j) (λ j. at y (s + j)) y))
+    (λ e c. go e (dec_lt e d) (dec_lt e (d + n)))
+  where
+    go : (e : ℕ) → Dec (e < d) → Dec (e < d + n) → at z e ≡ at (scattered n (λ j. d + j) (λ j. at y (s + j)) y) e
+    go e (yes q) r =
+        b e (pos 0) q ∙ sym (scattered-other n (λ j. d + j) (λ j. at y (s + j)) y e (λ m a w. omega arith))
+    go e (no q) (yes r) =
+        let p : d + (e - d) ≡ e = omega arith in
+        h e (pos 0) (omega arith) r
+        ∙ sym (ap (at (scattered n (λ j. d + j) (λ j. at y (s + j)) y)) (sym p)
+        ∙ scattered-at n (λ j. d + j) (λ j. at y (s + j)) y (λ m a. omega arith) (λ i j a c k w. k (omega arith)) (e - d)
+        (omega arith))
+    go e (no q) (no r) =
+        f e (pos 0) (omega arith)
+        ∙ sym (scattered-other n (λ j. d + j) (λ j. at y (s + j)) y e (λ m a w. omega arith))
 
--- and row i before the rows before it reach it
+-- row i is read before the rows before it reach it
 close-below : (m n i j l : ℕ) → m < i → l < n → n ≤ most_order → i * most_order + j ≢ m * n + l
 close-below m n i j l a b q e =
     let h : (m + 1) * n ≤ i * n = NatL.mul-le-mul_right n (omega arith) in

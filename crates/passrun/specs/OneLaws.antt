@@ -10,10 +10,11 @@ use Rattle.rules.specs.Stages.{done, beyond, inside}
 use Rattle.rules.specs.Shapes.{Lines, pass_stage}
 use Rattle.rules.specs.Answers.{start}
 use Rattle.rules.proofs.Laws.Lists.{inside-at}
+use Rattle.laws.specs.Accepted.{Accepted}
 use Rattle.factor.specs.declared.run.Task.{Task}
 use Rattle.factor.specs.declared.run.Task.TheVariants.{Forward, Inverse, Allowance}
 use Rattle.factor.specs.declared.run.Run.{Run}
-use Rattle.factor.specs.declared.run.Outcome.{Outcome}
+use Rattle.factor.specs.Outcomes.{Outcome}
 use Rattle.factor.specs.PassLines.{lines_by}
 use Rattle.factor.specs.SumBounds.{Bounded, bounded-le}
 use Rattle.factor.specs.StageLoops.{Refused}
@@ -72,8 +73,8 @@ pub named-read : (columns : Bool) (run : Run) (s : List ℤ) (many t : ℕ) {n i
 named-read columns run s many t {b = b} {c = c} p q r h =
     let g = rw (← (size-product columns many _), r.front) at h in rw (p, q) at g
 
-module _ (columns : Bool) (run : Run) {s : List ℤ} {starts : List ℕ} {many : ℕ} {x : List ℤ}
-    (h : PassAsks columns run s starts many x) {b : List ℤ} (l : LaidIn columns many (count s 0) x b) where
+module _ (columns : Bool) (run : Run) {s : List ℤ} {many : ℕ} {x : List ℤ}
+    (h : PassAsks columns run s many x) {b : List ℤ} (l : LaidIn columns many (count s 0) x b) where
   abbrev N : ℕ
   N = one_size columns many s
 
@@ -88,9 +89,10 @@ module _ (columns : Bool) (run : Run) {s : List ℤ} {starts : List ℕ} {many :
       (laid (one_size columns many s) (one_lines columns many s) b)
   stands = rw l.holds (pass-starts run N r s (rw l.holds at (laid-bounded N r laid-small)))
 
-  pub one-reaches : {to : ℕ} {end : Outcome} {c : List ℤ} → PassDone run s many to b end c → OneDone columns run s many x to end c
-  one-reaches d = record {
-    reached = reaches run N r s (d.passes N r (lines_of columns many h.sheet h.most)) stands;
+  pub one-reaches : {to : ℕ} {end : Outcome} {c : List ℤ} → Accepted s → PassDone run s many to b end c →
+      OneDone columns run s many x to end c
+  one-reaches a d = record {
+    reached = reaches run N r s (d.passes N r (lines_of columns many a h.most)) stands;
     small = d.small;
     wide = d.long;
   }

@@ -10,7 +10,7 @@ use Rattle.rules.proofs.Laws.Runs.{loop-start}
 use Rattle.laws.specs.Accepted.{Accepted}
 use Rattle.laws.specs.Sound.{factor-sound}
 use Rattle.factor.specs.declared.run.Run.{Run}
-use Rattle.factor.specs.declared.run.Outcome.{Outcome}
+use Rattle.factor.specs.Outcomes.{Outcome}
 use Rattle.factor.specs.SumBounds.{Bounded}
 use Rattle.factor.specs.Steps.{Step}
 use Rattle.factor.specs.Tasks.{limit_of, nth_stage, taken_by, name_first, name_after, run_by}

@@ -4,8 +4,8 @@ ghost use Rattle.rules.specs.Numbers.{most_order, most_cells, count};
 ghost use Rattle.rules.specs.Factors.{factor_at};
 ghost use Rattle.rules.specs.Stages.{beyond};
 ghost use Rattle.rules.specs.Shapes.{pass_stage};
-ghost use Rattle.laws.specs.Accepted.{Accepted, FactorRead};
-ghost use Rattle.sheetread.specs.Starts.{Starts};
+ghost use Rattle.laws.specs.Accepted.{FactorRead};
+ghost use Rattle.factor.specs.Outcomes.{outcome_of};
 ghost use Rattle.factor.specs.SumBounds.{Bounded};
 ghost use Rattle.factor.specs.PassLines.{lines_by};
 ghost use Rattle.factor.specs.Tasks.{limit_of, taken_by, name_after};
@@ -17,11 +17,11 @@ ghost use Rattle.passrun.specs.BlockRuns.{OneAsks, OneGives, TwoAsks, TwoGives};
 use crate::layout::{close_rows, copy_lines, turn};
 use crate::passes::run_pass;
 use factor::bounds::is_inside;
-use factor::run::{Outcome, Run, note, nth_start};
+use factor::run::{Place, Run, Stopped, nth_start};
 use offender::input::first_beyond;
 use offender::stage::pass_element;
-use rules::{Block, Sheet};
-use sheetread::factors::{count_at, smaller};
+use rules::Block;
+use sheetread::checked::Checked;
 
 // The lent numbers into a block of zeros, the lines side by side: `many` columns of `long` numbers, or rows. Allowances lend
 // none.
@@ -91,199 +91,165 @@ fn first_named(
 fn element_in_pass(
     columns: bool,
     run: Run,
-    sheet: &[i32],
-    starts: &[u16; Sheet::FACTORS],
+    sheet: &Checked<'_>,
     many: usize,
     t: usize,
     b: &mut [i32; Block::CELLS],
 ) -> usize
-    requires { Accepted sheet.now × Starts sheet.now starts.now × (1 ≤ many) × (many ≤ most_order)
-        × (t < count sheet.now 1) × Bounded (limit_of run.task) b.old × (length b.old ≡ most_cells) }
-    ensures { result ≡ named_in_pass columns run sheet.now many t b.old }
+    requires { (1 ≤ many) × (many ≤ most_order) × (t < count sheet.now.numbers.now 1)
+        × Bounded (limit_of run.task) b.old × (length b.old ≡ most_cells) }
+    ensures { result ≡ named_in_pass columns run sheet.now.numbers.now many t b.old }
 {
-    let task = run.task;
-    let n = count_at(sheet, 0);
-    let i = nth_start(task, sheet, starts, t);
+    let n = sheet.order();
+    let i = nth_start(run.task, sheet, t);
     read_off(columns, many, n, b);
-    first_named(columns, run, sheet, n, many, i, b)
+    first_named(columns, run, sheet.numbers, n, many, i, b)
 }
 
 // The first `to` stages of a pass, over the lent numbers in a block of zeros.
 fn run_one_pass(
     columns: bool,
     run: Run,
-    sheet: &[i32],
-    starts: &[u16; Sheet::FACTORS],
+    sheet: &Checked<'_>,
     many: usize,
     x: &[i32],
     to: usize,
     b: &mut [i32; Block::CELLS],
-) -> Outcome
-    requires { PassAsks columns run sheet.now starts.now many x.now × (to ≤ count sheet.now 1)
+) -> Result<(), Stopped>
+    requires { PassAsks columns run sheet.now.numbers.now many x.now × (to ≤ count sheet.now.numbers.now 1)
         × (b.old ≡ replicate most_cells (pos 0)) }
-    ensures { OneDone columns run sheet.now many x.now to result b.new }
+    ensures { OneDone columns run sheet.now.numbers.now many x.now to (outcome_of result) b.new }
 {
-    lay(columns, many, count_at(sheet, 0), x, b);
-    run_pass(run, sheet, starts, many, to, b)
+    lay(columns, many, sheet.order(), x, b);
+    run_pass(run, sheet, many, to, b)
 }
 
-// Whether the pass of a block is accepted: then y has what it gives. If not, y stays, and the pair has where it is refused. The
-// refused stage lies over the block before it, so the stages before it are taken once more.
+// A block's pass. If it is accepted, y has what it gives; if not, y stays. The refused stage lies over the block before it, so the
+// stages before it, which pass, are taken once more.
 pub fn run_one(
     columns: bool,
     run: Run,
-    sheet: &[i32],
-    starts: &[u16; Sheet::FACTORS],
+    sheet: &Checked<'_>,
     many: usize,
     x: &[i32],
     y: &mut [i32],
-    refused: &mut [usize; 2],
-) -> bool
-    requires { OneAsks columns run sheet.now starts.now many x.now y.old refused.old }
-    ensures { OneGives columns run sheet.now many x.now y.old result y.new
-        refused.new }
+) -> Result<(), Place>
+    requires { OneAsks columns run sheet.now.numbers.now many x.now y.old }
+    ensures { OneGives columns run sheet.now.numbers.now many x.now y.old result y.new }
 {
     if !is_inside(x) {
-        note(refused, 0, first_beyond(x));
-        return false;
+        return Err(Place {
+            stage: 0,
+            element: first_beyond(x),
+        });
     }
     let mut b = [0i32; Block::CELLS];
-    let all = count_at(sheet, 1);
-    let r = run_one_pass(columns, run, sheet, starts, many, x, all, &mut b);
-    let stage = r.stage;
-    if !r.ok {
+    let all = sheet.many();
+    if let Err(Stopped { stage }) = run_one_pass(columns, run, sheet, many, x, all, &mut b) {
         b = [0i32; Block::CELLS];
-        let t = stage - 1;
-        run_one_pass(columns, run, sheet, starts, many, x, t, &mut b);
-        note(
-            refused,
+        let _ = run_one_pass(columns, run, sheet, many, x, stage - 1, &mut b);
+        return Err(Place {
             stage,
-            element_in_pass(columns, run, sheet, starts, many, t, &mut b),
-        );
-        return false;
+            element: element_in_pass(columns, run, sheet, many, stage - 1, &mut b),
+        });
     }
-    store(columns, many, count_at(sheet, 0), &b, y);
-    true
+    store(columns, many, sheet.order(), &b, y);
+    Ok(())
 }
 
 // The first `to` stages of a second pass, along w lines. Rows and columns change places first, so that its lines lie side by
 // side.
 fn run_turned(
     run: Run,
-    sheet: &[i32],
-    starts: &[u16; Sheet::FACTORS],
+    sheet: &Checked<'_>,
     w: usize,
     to: usize,
     b: &mut [i32; Block::CELLS],
-) -> Outcome
-    requires { Accepted sheet.now × Starts sheet.now starts.now × (w ≤ most_order) × (to ≤ count sheet.now 1)
+) -> Result<(), Stopped>
+    requires { (w ≤ most_order) × (to ≤ count sheet.now.numbers.now 1)
         × Bounded (limit_of run.task) b.old × (length b.old ≡ most_cells) }
-    ensures { TurnedDone run sheet.now w to b.old result b.new }
+    ensures { TurnedDone run sheet.now.numbers.now w to b.old (outcome_of result) b.new }
 {
-    turn(count_at(sheet, 0), w, b);
-    run_pass(run, sheet, starts, w, to, b)
+    turn(sheet.order(), w, b);
+    run_pass(run, sheet, w, to, b)
 }
 
 // A block of zeros through two passes.
 fn run_two_passes(
     columns: bool,
     run: Run,
-    first: &[i32],
-    second: &[i32],
-    firsts: &[u16; Sheet::FACTORS],
-    seconds: &[u16; Sheet::FACTORS],
+    first: &Checked<'_>,
+    second: &Checked<'_>,
     x: &[i32],
     b: &mut [i32; Block::CELLS],
-) -> Outcome
-    requires { PairAsks columns run first.now second.now firsts.now seconds.now x.now
+) -> Result<(), Stopped>
+    requires { PairAsks columns run first.now.numbers.now second.now.numbers.now x.now
         × (b.old ≡ replicate most_cells (pos 0)) }
-    ensures { TwoEnded columns run first.now second.now x.now result b.new }
+    ensures { TwoEnded columns run first.now.numbers.now second.now.numbers.now x.now
+        (outcome_of result) b.new }
 {
-    let k = count_at(first, 1);
-    let r = run_one_pass(columns, run, first, firsts, count_at(second, 0), x, k, b);
-    if !r.ok {
-        return r;
-    }
-    let s = run_turned(
-        run,
-        second,
-        seconds,
-        count_at(first, 0),
-        count_at(second, 1),
-        b,
-    );
-    let stage = s.stage;
-    if !s.ok {
-        return Outcome {
-            ok: false,
-            stage: k + stage,
-        };
-    }
-    s
+    let k = first.many();
+    run_one_pass(columns, run, first, second.order(), x, k, b)?;
+    run_turned(run, second, first.order(), second.many(), b).map_err(|s| Stopped {
+        stage: k + s.stage,
+    })
 }
 
-// The element that a refusal at a stage of them names: the stages before it are taken once more.
+// The element that a refusal at a stage of them names: the stages before it, which pass, are taken once more.
 fn element_of_two(
     columns: bool,
     run: Run,
-    first: &[i32],
-    second: &[i32],
-    firsts: &[u16; Sheet::FACTORS],
-    seconds: &[u16; Sheet::FACTORS],
+    first: &Checked<'_>,
+    second: &Checked<'_>,
     x: &[i32],
     stage: usize,
     b: &mut [i32; Block::CELLS],
 ) -> usize
-    requires { PairAsks columns run first.now second.now firsts.now seconds.now x.now
-        × (b.old ≡ replicate most_cells (pos 0)) × PairRefused columns run first.now second.now x.now stage }
-    ensures { pair_run columns run first.now second.now x.now ≡ beyond stage result }
+    requires { PairAsks columns run first.now.numbers.now second.now.numbers.now x.now
+        × (b.old ≡ replicate most_cells (pos 0))
+        × PairRefused columns run first.now.numbers.now second.now.numbers.now x.now stage }
+    ensures { pair_run columns run first.now.numbers.now second.now.numbers.now x.now
+        ≡ beyond stage result }
 {
-    let n = count_at(first, 0);
-    let m = count_at(second, 0);
-    let k = count_at(first, 1);
+    let n = first.order();
+    let m = second.order();
+    let k = first.many();
     let t = stage - 1;
-    run_one_pass(columns, run, first, firsts, m, x, smaller(t, k), b);
+    let _ = run_one_pass(columns, run, first, m, x, t.min(k), b);
     if t < k {
-        return element_in_pass(columns, run, first, firsts, m, t, b);
+        return element_in_pass(columns, run, first, m, t, b);
     }
-    run_turned(run, second, seconds, n, t - k, b);
-    element_in_pass(!columns, run, second, seconds, n, t - k, b)
+    let _ = run_turned(run, second, n, t - k, b);
+    element_in_pass(!columns, run, second, n, t - k, b)
 }
 
 // The same of two passes: the lines of the first are columns or rows, those of the second the others.
 pub fn run_two(
     columns: bool,
     run: Run,
-    first: &[i32],
-    second: &[i32],
-    firsts: &[u16; Sheet::FACTORS],
-    seconds: &[u16; Sheet::FACTORS],
+    first: &Checked<'_>,
+    second: &Checked<'_>,
     x: &[i32],
     y: &mut [i32],
-    refused: &mut [usize; 2],
-) -> bool
-    requires { TwoAsks columns run first.now second.now firsts.now seconds.now x.now y.old refused.old }
-    ensures { TwoGives columns run first.now second.now x.now y.old result
-        y.new refused.new }
+) -> Result<(), Place>
+    requires { TwoAsks columns run first.now.numbers.now second.now.numbers.now x.now y.old }
+    ensures { TwoGives columns run first.now.numbers.now second.now.numbers.now x.now
+        y.old result y.new }
 {
     if !is_inside(x) {
-        note(refused, 0, first_beyond(x));
-        return false;
+        return Err(Place {
+            stage: 0,
+            element: first_beyond(x),
+        });
     }
     let mut b = [0i32; Block::CELLS];
-    let r = run_two_passes(columns, run, first, second, firsts, seconds, x, &mut b);
-    let stage = r.stage;
-    if !r.ok {
+    if let Err(Stopped { stage }) = run_two_passes(columns, run, first, second, x, &mut b) {
         b = [0i32; Block::CELLS];
-        note(
-            refused,
+        return Err(Place {
             stage,
-            element_of_two(
-                columns, run, first, second, firsts, seconds, x, stage, &mut b,
-            ),
-        );
-        return false;
+            element: element_of_two(columns, run, first, second, x, stage, &mut b),
+        });
     }
-    store(!columns, count_at(first, 0), count_at(second, 0), &b, y);
-    true
+    store(!columns, first.order(), second.order(), &b, y);
+    Ok(())
 }

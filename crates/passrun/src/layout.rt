@@ -1,11 +1,10 @@
 // A block between its two layouts: in reading order, as it is lent, and with its lines side by side.
-ghost use Rattle.std.specs.Prelude.{◌≡◌, ◌+◌, ◌*◌, ◌≤◌, ◌<◌, max, length};
+ghost use Rattle.std.specs.Prelude.{◌≡◌, ◌+◌, ◌*◌, ◌≤◌, ◌<◌, length};
 ghost use Rattle.rules.specs.Numbers.{most_order, most_cells, at};
 ghost use Rattle.factor.specs.MovedInPlace.{scattered};
 ghost use Rattle.passrun.specs.Layout.{CopiesRow, CopiesLines, copied, exchanged, turned};
 
 use rules::Block;
-use sheetread::factors::smaller;
 
 // Number l of a row, for each l below many: from place k + l·s of x to place j + l·t of y.
 #[tactic(auto, unfolding(factor::specs::MovedInPlace::scattered))]
@@ -46,21 +45,8 @@ fn exchange(i: usize, to: usize, x: &mut [i32; Block::CELLS])
     ensures { x.new ≡ exchanged i to x.old }
 {
     for j in 0..to {
-        let a = x[i * Block::LINE + j];
-        let b = x[j * Block::LINE + i];
-        x[i * Block::LINE + j] = b;
-        x[j * Block::LINE + i] = a;
+        x.swap(i * Block::LINE + j, j * Block::LINE + i);
     }
-}
-
-// The larger of two numbers.
-fn larger(a: usize, b: usize) -> usize
-    ensures { result ≡ max a b }
-{
-    if a < b {
-        return b;
-    }
-    a
 }
 
 // Rows and columns of a block of n by m numbers, or m by n, change places: what was a line is a row of numbers of all lines then.
@@ -70,27 +56,14 @@ pub fn turn(n: usize, m: usize, x: &mut [i32; Block::CELLS])
     requires { (n ≤ most_order) × (m ≤ most_order) × (length x.old ≡ most_cells) }
     ensures { x.new ≡ turned n m x.old }
 {
-    let few = smaller(n, m);
-    let all = larger(n, m);
-    for i in 0..all {
-        exchange(i, smaller(i, few), x);
+    let few = n.min(m);
+    for i in 0..n.max(m) {
+        exchange(i, i.min(few), x);
     }
 }
 
-// Row i of rows 16 apart, to where it stands in reading order, where rows have n numbers. The numbers go to the front, so none is
+// A block of m by n numbers whose rows stand 16 apart, in reading order. The numbers go to the front, row by row, so no row is
 // written over before it is read.
-#[tactic(auto, unfolding(factor::specs::MovedInPlace::scattered))]
-fn close_row(i: usize, n: usize, x: &mut [i32; Block::CELLS])
-    requires { (i < most_order) × (n ≤ most_order) × (length x.old ≡ most_cells) }
-    ensures { x.new ≡ scattered n (λ j. i * n + j) (λ j. at x.old (i * most_order + j))
-        x.old }
-{
-    for j in 0..n {
-        x[i * n + j] = x[i * Block::LINE + j];
-    }
-}
-
-// A block of m by n numbers whose rows stand 16 apart, in reading order.
 #[tactic(auto, unfolding(crate::specs::Layout::copied))]
 pub fn close_rows(m: usize, n: usize, x: &mut [i32; Block::CELLS])
     requires { (m ≤ most_order) × (n ≤ most_order) × (length x.old ≡ most_cells) }
@@ -98,6 +71,6 @@ pub fn close_rows(m: usize, n: usize, x: &mut [i32; Block::CELLS])
         x.old }
 {
     for i in 0..m {
-        close_row(i, n, x);
+        x.copy_within(i * Block::LINE..i * Block::LINE + n, i * n);
     }
 }

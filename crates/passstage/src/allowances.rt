@@ -1,5 +1,5 @@
 // A factor with weights on allowances: a line at a time, each number by the line's own code. Nobody waits for allowances.
-ghost use Rattle.std.specs.Prelude.{◌≡◌, ◌≤◌, ◌<◌, length};
+ghost use Rattle.std.specs.Prelude.{◌≡◌, ◌≤◌, ◌<◌, length, is_ok};
 ghost use Rattle.rules.specs.Numbers.{most_order, most_cells, most_allowance};
 ghost use Rattle.factor.specs.SumBounds.{Bounded};
 ghost use Rattle.factor.specs.LayoutInSheet.{InSheet};
@@ -7,28 +7,32 @@ ghost use Rattle.passstage.specs.Lanes.{lane};
 ghost use Rattle.passstage.specs.LaneSteps.{line_allowed, LineMade, LinesMade};
 
 use factor::Layout;
-use factor::bounds::keep;
+use factor::bounds::{Beyond, keep};
 use factor::moves::copy_line;
 use linerun::steps::allowed_at;
 use rules::{Block, Rule};
 
-// The allowances of line l. Answers whether they are all within the limit.
+// The allowances of line l, up to the first that is beyond the limit.
 #[tactic(auto, unfolding(crate::specs::Lanes::lane, factor::specs::MovedInPlace::scattered))]
-fn allow_line(rule: Rule, sheet: &[i32], f: Layout, l: usize, x: &mut [i32; Block::CELLS]) -> bool
+fn allow_line(
+    rule: Rule,
+    sheet: &[i32],
+    f: Layout,
+    l: usize,
+    x: &mut [i32; Block::CELLS],
+) -> Result<(), Beyond>
     requires { InSheet sheet.now f × (l < most_order) × Bounded most_allowance x.old × (length x.old ≡ most_cells) }
     ensures { LineMade most_allowance f.order l (line_allowed rule sheet.now f (lane l x.old))
-        x.old x.new result }
+        x.old x.new (is_ok result) }
 {
     let n = f.order;
     let mut v = [0i32; Block::LINE];
     copy_line(x, Block::LINE, l, Block::LINE, &mut v);
     for m in 0..n {
         let z = allowed_at(rule, sheet, f, m, &v);
-        if !keep(z, Block::ALLOWANCE, x, l + m * Block::LINE) {
-            return false;
-        }
+        keep(z, Block::ALLOWANCE, x, l + m * Block::LINE)?;
     }
-    true
+    Ok(())
 }
 
 // Those of w lines.
@@ -38,15 +42,13 @@ pub fn allow_lines(
     f: Layout,
     w: usize,
     x: &mut [i32; Block::CELLS],
-) -> bool
+) -> Result<(), Beyond>
     requires { InSheet sheet.now f × (w ≤ most_order) × Bounded most_allowance x.old × (length x.old ≡ most_cells) }
     ensures { LinesMade most_allowance f.order (line_allowed rule sheet.now f) w x.old
-        x.new result }
+        x.new (is_ok result) }
 {
     for l in 0..w {
-        if !allow_line(rule, sheet, f, l, x) {
-            return false;
-        }
+        allow_line(rule, sheet, f, l, x)?;
     }
-    true
+    Ok(())
 }

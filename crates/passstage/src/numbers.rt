@@ -1,5 +1,5 @@
 // The numbers of one row, for all lines: each from its sum, in its place.
-ghost use Rattle.std.specs.Prelude.{◌≡◌, ◌+◌, pos, ◌+ℤ◌, ◌*ℤ◌};
+ghost use Rattle.std.specs.Prelude.{◌≡◌, ◌+◌, pos, ◌+ℤ◌, ◌*ℤ◌, is_ok};
 ghost use Rattle.whole.specs.Diff.{Within};
 ghost use Rattle.whole.specs.Stated.{Sign};
 ghost use Rattle.rules.specs.Numbers.{unit, bound, at};
@@ -10,7 +10,7 @@ ghost use Rattle.passstage.specs.Parts.{most_parts, most_new, joined};
 ghost use Rattle.passstage.specs.LaneSteps.{made_by, row_set, RowGiven, RowMade};
 
 use crate::sums::Parts;
-use factor::bounds::wide;
+use factor::bounds::{Beyond, wide};
 use factor::rounding::{is_within, lift};
 use rules::{Block, Scale};
 
@@ -30,16 +30,16 @@ fn made(back: bool, d: i32, x: i32, q: i32) -> i32
     ensures { result ≡ made_by back d x q }
 {
     if d < 0 {
-        return q - x;
+        q - x
+    } else if back {
+        x - q
+    } else {
+        x + q
     }
-    if back {
-        return x - q;
-    }
-    x + q
 }
 
-// The first w numbers from place k on, by the sums v. Answers whether they are all in bound. No number ends the loop, so that
-// several can be made together.
+// The first w numbers from place k on, by the sums v. A number beyond the bound does not end the loop, so that several can be
+// made together.
 #[tactic(auto, unfolding(factor::specs::MovedInPlace::scattered))]
 pub fn make_numbers(
     back: bool,
@@ -50,10 +50,10 @@ pub fn make_numbers(
     w: usize,
     v: &[i32; Parts::BOTH],
     x: &mut [i32; Block::CELLS],
-) -> bool
+) -> Result<(), Beyond>
     requires { RowGiven d k w x.old × Bounded most_parts v.now }
     ensures { RowMade k w (λ l. made_by back d (at x.old (k + l))
-        (R (rule_by down even) unit (joined v.now l))) x.old x.new result }
+        (R (rule_by down even) unit (joined v.now l))) x.old x.new (is_ok result) }
 {
     let mut fine = true;
     for l in 0..w {
@@ -64,9 +64,9 @@ pub fn make_numbers(
             rounded(down, even, v[l], v[Block::LINE + l]),
         );
         x[k + l] = z;
-        fine = fine & is_within(wide(z), Block::SAMPLE);
+        fine &= is_within(wide(z), Block::SAMPLE);
     }
-    fine
+    if fine { Ok(()) } else { Err(Beyond {}) }
 }
 
 // The numbers of a row without entries: a sign turns them.

@@ -1,5 +1,5 @@
 // A factor with weights along every line, in place, row by row.
-ghost use Rattle.std.specs.Prelude.{◌≡◌, ◌*◌, ◌≤◌, ◌<◌, length};
+ghost use Rattle.std.specs.Prelude.{◌≡◌, ◌*◌, ◌≤◌, ◌<◌, length, is_ok};
 ghost use Rattle.rules.specs.Numbers.{most_order, most_cells, bound};
 ghost use Rattle.factor.specs.Rounding.{rule_by};
 ghost use Rattle.factor.specs.SumBounds.{Bounded};
@@ -9,6 +9,7 @@ ghost use Rattle.passstage.specs.LaneSteps.{step_at, turn_of, after_turns, RowMa
 
 use crate::numbers::{make_numbers, turn_row};
 use crate::sums::{Parts, add_columns};
+use factor::bounds::Beyond;
 use factor::{Layout, nth_undone, row_of};
 use rules::Block;
 
@@ -20,13 +21,13 @@ fn row_in_turn(back: bool, f: Layout, t: usize) -> usize
     ensures { result ≡ turn_of back f t }
 {
     if back {
-        return nth_undone(f, t);
+        nth_undone(f, t)
+    } else {
+        nth_undone(f, f.order - 1 - t)
     }
-    let n = f.order;
-    nth_undone(f, n - 1 - t)
 }
 
-// Row m, for w lines. Answers whether its numbers are all in bound.
+// Row m, for w lines.
 fn take_row(
     back: bool,
     down: bool,
@@ -36,29 +37,33 @@ fn take_row(
     m: usize,
     w: usize,
     x: &mut [i32; Block::CELLS],
-) -> bool
+) -> Result<(), Beyond>
     requires { InSheet sheet.now f × (m < f.order) × (w ≤ most_order) × Bounded bound x.old
         × (length x.old ≡ most_cells) }
     ensures { RowMade (m * most_order) w (λ l. step_at back (rule_by down even) sheet.now f
-        (lane l x.old) m) x.old x.new result }
+        (lane l x.old) m) x.old x.new (is_ok result) }
 {
-    let signs = f.signs;
-    let d = sheet[signs + m];
+    let d = sheet[f.signs + m];
     let r = row_of(f, m);
-    let at = r.at;
-    let left = r.left;
-    let right = r.right;
-    if left + right == 0 {
+    if r.left + r.right == 0 {
         turn_row(d, m * Block::LINE, w, x);
-        return true;
+        return Ok(());
     }
     let mut v = [0i32; Parts::BOTH];
-    add_columns(sheet, at, left, x, 0, w, &mut v);
-    add_columns(sheet, at + left, right, x, (m + 1) * Block::LINE, w, &mut v);
+    add_columns(sheet, r.at, r.left, x, 0, w, &mut v);
+    add_columns(
+        sheet,
+        r.at + r.left,
+        r.right,
+        x,
+        (m + 1) * Block::LINE,
+        w,
+        &mut v,
+    );
     make_numbers(back, down, even, d, m * Block::LINE, w, &v, x)
 }
 
-// All rows. Answers whether every number is in bound.
+// All rows, up to the first that has a number beyond the bound.
 pub fn take_rows(
     back: bool,
     down: bool,
@@ -67,18 +72,15 @@ pub fn take_rows(
     f: Layout,
     w: usize,
     x: &mut [i32; Block::CELLS],
-) -> bool
+) -> Result<(), Beyond>
     requires { InSheet sheet.now f × (f.row < f.order) × (w ≤ most_order) × Bounded bound x.old
         × (length x.old ≡ most_cells) }
     ensures { LinesMade bound f.order (after_turns back (rule_by down even) sheet.now f f.order) w
-        x.old x.new result }
+        x.old x.new (is_ok result) }
 {
-    let n = f.order;
-    for t in 0..n {
+    for t in 0..f.order {
         let m = row_in_turn(back, f, t);
-        if !take_row(back, down, even, sheet, f, m, w, x) {
-            return false;
-        }
+        take_row(back, down, even, sheet, f, m, w, x)?;
     }
-    true
+    Ok(())
 }

@@ -7,16 +7,14 @@ ghost use Rattle.rules.specs.Numbers.{most_order, most_cells, most_entry, bound,
 ghost use Rattle.factor.specs.SumBounds.{Bounded};
 ghost use Rattle.passstage.specs.Parts.{whole, rest, most_part, Raised, parts_sum, Parting, together};
 
-use rules::Block;
+use rules::{Block, Sheet};
 
 // The parts of a number.
 #[derive(Clone, Copy)]
 pub struct Parts {}
 
 impl Parts {
-    pub const UNIT: i32 = 4096;
-
-    // A shift by so many bits divides by the unit, downward.
+    // A shift by so many bits divides by `Sheet::UNIT`, downward.
     pub const BITS: i32 = 12;
 
     // The sums of whole parts for 16 lines, and those of rests after them.
@@ -35,7 +33,7 @@ fn rest_part(x: i32) -> i32
     requires { Within bound x }
     ensures { result ≡ rest x }
 {
-    x - Parts::UNIT * (x >> Parts::BITS)
+    x - Sheet::UNIT * (x >> Parts::BITS)
 }
 
 // The entry a times both parts of w numbers, from place k on.
@@ -59,8 +57,8 @@ fn add_products(t: &[i32; Parts::BOTH], w: usize, v: &mut [i32; Parts::BOTH])
         v.new }
 {
     for c in 0..w {
-        v[c] = v[c] + t[c];
-        v[Block::LINE + c] = v[Block::LINE + c] + t[Block::LINE + c];
+        v[c] += t[c];
+        v[Block::LINE + c] += t[Block::LINE + c];
     }
 }
 
@@ -112,11 +110,9 @@ pub fn add_columns(
 {
     if w <= 4 {
         add_entries(a, p, m, x, k, 4, v);
-        return;
-    }
-    if w <= 8 {
+    } else if w <= 8 {
         add_entries(a, p, m, x, k, 8, v);
-        return;
+    } else {
+        add_entries(a, p, m, x, k, Block::LINE, v);
     }
-    add_entries(a, p, m, x, k, Block::LINE, v);
 }

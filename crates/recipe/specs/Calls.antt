@@ -1,12 +1,12 @@
 -- THE CALLS: what one gives that refuses, and what holds where one refuses nothing.
 use Rattle.std.specs.Prelude.{List, [], ◌∷◌, ◌≡◌, refl, ℕ, ◌≤◌, ◌<◌, ℤ, length}
-use Rattle.std.proofs.Common.{◌∙◌, arith, le-leb, ne_eqb}
+use Rattle.std.proofs.Common.{sym, ap, ◌∙◌, arith, le-leb, ne_eqb}
 use Rattle.std.proofs.Math.Decide.{dec_lt, ℕ_discrete}
 use Rattle.std.proofs.lemmas.Bool.{lt-leb}
 use Rattle.rules.specs.declared.Answer.{Answer}
 use Rattle.rules.specs.Recipes.{packed, numbers_of, left_of}
-use Rattle.rules.specs.Answers.{counted, checked}
-use Rattle.rules.specs.Calls.{reply, fitting, over, spelling, read, write}
+use Rattle.rules.specs.Answers.{counted, ◌or_else◌, checked}
+use Rattle.rules.specs.Calls.{Reply, reply, fitting, over, spelling, read, write}
 use Rattle.laws.specs.Accepted.{both-fine}
 use Rattle.laws.specs.AnswersInTurn.{answer-passes}
 
@@ -72,3 +72,13 @@ did_read b room h =
       whole = reply-fine (length s) (over s room) room (answer-passes (spelling b) _ f.0 ∙ answer-passes (checked s) _ g.0
           ∙ k.1);
     }
+
+-- the same, where a reader's answer counted n
+pub read-counted : (b : List ℕ) (room : List ℤ) {n m : ℕ} → m ≡ length (numbers_of b)
+    → counted n ≡ spelling b or_else checked (numbers_of b) or_else fitting m (length room)
+    → DidRead b room × (n ≡ length (numbers_of b))
+unfolding read reply
+read-counted b room {n} {m} many e =
+    let f = rw many at e in
+    let d = did_read b room (ap (λ (x : Answer). x.number) (sym f)) in
+    (d, ap (λ (x : Answer). x.place) (f ∙ ap (λ (x : Reply ℤ). x.answer) d.whole))

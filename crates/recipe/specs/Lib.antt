@@ -1,3 +1,4 @@
+pub mod Results
 pub mod Calls
 pub mod Trips
 pub mod Printings

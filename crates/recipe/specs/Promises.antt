@@ -1,4 +1,5 @@
--- ONE ANSWER AND ONE MEMORY of each call on recipe bytes, refusals too: what their contracts say leaves no other.
+-- ONE ANSWER AND ONE MEMORY of each call on recipe bytes, refusals too: what their contracts say leaves no other. x is the answer
+-- of a call's result (`count_answered`), and tells it (`one-count`).
 use Rattle.std.specs.Prelude.{List, ◌≡◌, ℕ, ℤ}
 use Rattle.rules.specs.declared.Answer.{Answer}
 use Rattle.rules.specs.Calls.{Gives, read, write, write_table}

@@ -1,26 +1,16 @@
-// Answers of calls that fill a lent slice.
+// What a call that fills a lent slice answers.
 ghost use Rattle.std.specs.Prelude.{◌≡◌};
-ghost use Rattle.rules.specs.Answers.{◌or_else◌};
 ghost use Rattle.rules.specs.Calls.{fitting};
+ghost use Rattle.rules.specs.Results.{count_answered};
 
-use rules::Answer;
+use rules::{Fault, Refusal, Side};
 
 // The count, or 15 with the count needed.
-pub fn fitting(count: usize, room: usize) -> Answer
-    ensures { result ≡ fitting count room }
+pub fn fitting(count: usize, room: usize) -> Result<usize, Refusal>
+    ensures { count_answered result ≡ fitting count room }
 {
     if count > room {
-        return Answer::refused(15, 0, count as u64);
+        return Err(Refusal::new(Fault::Room, Side::First, count as u64));
     }
-    Answer::counted(count as u64)
-}
-
-// An answer that is no refusal gives way to the next one.
-pub fn or_else(a: Answer, b: Answer) -> Answer
-    ensures { result ≡ a or_else b }
-{
-    if a.number != 0 {
-        return a;
-    }
-    b
+    Ok(count)
 }

@@ -1,10 +1,9 @@
 // The built-in recipe, corrected and as first printed.
-ghost use Rattle.std.specs.Prelude.{◌≡◌, ◌≤◌, ◌<◌, length};
-ghost use Rattle.rules.specs.Numbers.{at};
-ghost use Rattle.rules.specs.Calls.{Gives, over, built_in, first_printing, write_table};
+ghost use Rattle.rules.specs.Calls.{Gives, built_in, first_printing, write_table};
+ghost use Rattle.rules.specs.Results.{count_answered};
 
 use crate::answers::fitting;
-use rules::Answer;
+use rules::Refusal;
 
 const LENGTH: usize = 45;
 
@@ -17,46 +16,22 @@ const TABLE: [i32; LENGTH] = [
     -2676, 3101, -2484, 0, 2, 1, 1, 1, 1, -2106, 2106, -4096, -872, 3281, 0, 1, 3, 2, 1, 0,
 ];
 
-// The table's number at k.
-fn entry(k: usize) -> i32
-    requires { k < length built_in }
-    ensures { result ≡ at built_in k }
-{
-    TABLE[k]
-}
-
-// Puts the table into the front of out.
-fn copy_table(out: &mut [i32])
-    requires { length built_in ≤ length out.old }
-    ensures { out.new ≡ over built_in out.old }
-{
-    for k in 0..LENGTH {
-        out[k] = entry(k);
-    }
-}
-
 // Writes the built-in recipe: 15, or the table. Its product is the transpose of the DCT of 001 (`cosine-close`), so the cosine
 // coefficients of a block come from the inverse run, and the forward run restores it.
 #[tactic(auto, unfolding(rules::specs::Calls::write_table))]
-pub fn built_in(out: &mut [i32]) -> Answer
-    ensures { Gives result out.new (write_table built_in out.old) }
+pub fn built_in(out: &mut [i32]) -> Result<usize, Refusal>
+    ensures { Gives (count_answered result) out.new (write_table built_in out.old) }
 {
-    let answer = fitting(LENGTH, out.len());
-    if answer.number != 0 {
-        return answer;
-    }
-    copy_table(out);
-    answer
+    let count = fitting(LENGTH, out.len())?;
+    out[..LENGTH].copy_from_slice(&TABLE);
+    Ok(count)
 }
 
 // Writes the built-in recipe as it was first printed, for recipes and coefficients that were kept under it: U's sign is lost.
-pub fn first_printing(out: &mut [i32]) -> Answer
-    ensures { Gives result out.new (write_table first_printing out.old) }
+pub fn first_printing(out: &mut [i32]) -> Result<usize, Refusal>
+    ensures { Gives (count_answered result) out.new (write_table first_printing out.old) }
 {
-    let answer = built_in(out);
-    if answer.number != 0 {
-        return answer;
-    }
+    let count = built_in(out)?;
     out[LOST] = -TABLE[LOST];
-    answer
+    Ok(count)
 }

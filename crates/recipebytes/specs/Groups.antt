@@ -2,7 +2,7 @@
 use Rattle.std.specs.Prelude.{Bool, true, false, cond, List, [], ◌∷◌, ◌≡◌, refl, ℕ, zero, suc, ◌+◌, ◌*◌, ◌%◌, ◌≤◌, ◌<◌, eqb, ltb, length, drop}
 use Rattle.std.proofs.Math.Decide.{dec_lt}
 use Rattle.std.proofs.Common.{arith, lt-ltb, le-ltb, length-drop, drop_of_length-le}
-use Rattle.rules.specs.declared.Spelt.{Spelt}
+use Rattle.rules.specs.Marks.{Spelt}
 use Rattle.rules.specs.Recipes.{spelt, none, group, tail, groups, number}
 
 -- ---- how large

@@ -3,6 +3,7 @@ pub mod Codes
 pub mod Spelling
 pub mod Packing
 pub mod Filling
+pub mod Spelled
 pub mod Groups
 pub mod Reading
 pub mod Writing

@@ -3,7 +3,7 @@ use Rattle.std.specs.Prelude.{Bool, true, false, cond, List, [], ◌∷◌, ◌�
 use Rattle.std.proofs.Common.{sym, ap, ◌∙◌, add-zero, zero-add, arith, length-drop, get_or-drop, drop-drop}
 use Rattle.std.proofs.Math.Nat.{sub-zero}
 use borrow.Author.Tests.{ne_eqb}
-use Rattle.rules.specs.declared.Spelt.{Spelt}
+use Rattle.rules.specs.Marks.{Spelt}
 use Rattle.rules.specs.Numbers.{at}
 use Rattle.rules.specs.Recipes.{value, number, unpack, left, numbers_of, left_of}
 use Rattle.rules.specs.Calls.{over}
@@ -60,10 +60,6 @@ scan-ends {b} {k} {i} h p q = record {
   many_is = sym (h.many ∙ rw q (add-zero k));
 }
 
-pub scan-end : {b : List ℕ} {k i : ℕ} → length b ≤ k → Scanned b k i → NumbersEnd b i k
-unfolding left unpack
-scan-end {b} {k} {i} l h = let e : length b - k ≡ 0 = omega arith in scan-ends h (rw e) (rw e)
-
 -- r is what was read at place i
 pub inside-by : (b : List ℕ) (i : ℕ) {r : Spelt} → r ≡ number (drop i b) → i ≤ length b → i + r.size ≤ length b
 inside-by b i e h = rw e (number-inside b i h)
@@ -99,7 +95,7 @@ decode-long {b} {room} {out} {k} l fits h = rw h.list (front_long (numbers_of b)
 
 module _ {b : List ℕ} {room out : List ℤ} {k i : ℕ} (l : k < length (numbers_of b)) (h : Decoded b room k i out) where
   -- a number is still there, and a turn
-  there : (number (drop i b)).size ≡ 0 → ⊥
+  pub there : (number (drop i b)).size ≡ 0 → ⊥
   there e =
       let a : length (drop k (numbers_of b)) ≡ 0 = ap length (h.rest ∙ unpack-stop (length b - k) (drop i b) e) in
       omega (arith, length-drop k (numbers_of b))

@@ -3,7 +3,7 @@
 use Rattle.std.specs.Prelude.{Bool, true, false, cond, List, [], ◌∷◌, ◌++◌, ◌≡◌, refl, ℕ, zero, suc, ◌+◌, ◌*◌, ◌/◌, ◌%◌, ◌≤◌, ◌<◌, eqb, ltb, ℤ, length, take}
 use Rattle.std.proofs.Common.{sym, ap, ◌∙◌, pos_of_ne-zero, add-one, arith, lt-ltb, le-ltb, eq-eqb, ne_eqb}
 use Rattle.std.proofs.Math.Decide.{dec_lt, ℕ_discrete}
-use Rattle.rules.specs.declared.Spelt.{Spelt}
+use Rattle.rules.specs.Marks.{Spelt}
 use Rattle.rules.specs.Recipes.{code, value, spell, written, spelt, none, group, groups, number}
 use Rattle.laws.specs.Tests.{apart}
 use Rattle.recipebytes.specs.Stated.{Bytes}

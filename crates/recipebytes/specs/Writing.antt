@@ -1,7 +1,9 @@
--- WRITING NUMBER AFTER NUMBER: the states of the loops that count bytes and write them, with one law for a turn of each.
-use Rattle.std.specs.Prelude.{List, [], ◌∷◌, ◌++◌, ◌≡◌, refl, ℕ, ◌+◌, ◌*◌, ◌≤◌, ◌<◌, ℤ, pos, length, take, drop}
+-- WRITING NUMBER AFTER NUMBER: how many bytes all numbers take, and the state of the loop that writes them, with one law for a
+-- turn.
+use Rattle.std.specs.Prelude.{List, [], ◌∷◌, ◌++◌, ◌≡◌, refl, ℕ, ◌+◌, ◌*◌, ◌≤◌, ◌<◌, ℤ, pos, length, take, sum_by, drop}
 use Rattle.std.proofs.Common.{append_assoc, append-nil, sym, ap, ◌∙◌, add-one, arith, length-append, take-append-drop, take-suc}
 use Rattle.std.proofs.lemmas.List.Edits.{sets}
+use Rattle.std.proofs.lemmas.List.Recursion.{is_sum_by}
 use Rattle.std.proofs.Math.Seq.{take-length}
 use Rattle.rules.specs.Numbers.{at}
 use Rattle.rules.specs.Recipes.{code, spell, written, packed}
@@ -33,24 +35,19 @@ packed-front s k =
 packed_all : (s : List ℤ) {k : ℕ} → length s ≡ k → packed (take k s) ≡ packed s
 packed_all s e = ap packed (ap (λ (n : ℕ). take n s) (sym e) ∙ take-length s)
 
--- ---- the loop that counts: the first k numbers have so many bytes
-pub record Sized (s : List ℤ) (k total : ℕ) : Type 0 where
-  pub is : total ≡ length (packed (take k s))
-  pub most : total ≤ 3 * k
+-- ---- the bytes of all numbers: those of each, at most three
+unfoldable pub size_of : ℤ → ℕ
+size_of v = length (spell 2 (code v))
 
-pub size_none : (s : List ℤ) → Sized s 0 0
+pub size-sum : (s : List ℤ) → sum_by size_of s ≡ length (packed s)
+unfolding packed size_of
+size-sum s =
+    sym (is_sum_by (λ (t : List ℤ). length (packed t)) size_of refl (λ v t. length-append (written v) (packed t)) s)
+
+pub packed-most : (s : List ℤ) → length (packed s) ≤ 3 * length s
 unfolding packed
-size_none s = record { is = refl; most = omega arith }
-
-pub size-on : {s : List ℤ} {k total n u : ℕ} → k < length s → u ≡ code (at s k) → n ≡ length (spell 2 u) → Sized s k total
-    → Sized s (k + 1) (total + n)
-size-on {s} {k} {total} {n} {u} l e f h = record {
-  is = sym (ap length (packed-next s k l) ∙ length-append (packed (take k s)) (written (at s k)) ∙ rw (h.is, f, e));
-  most = let a = h.most in let b = spell-most u in omega arith;
-}
-
-pub size-end : {s : List ℤ} {k total : ℕ} → length s ≡ k → Sized s k total → total ≡ length (packed s)
-size-end {s} e h = h.is ∙ ap length (packed_all s e)
+packed-most [] = omega arith
+packed-most (v ∷ s) = let a = packed-most s in let b = spell-most (code v) in rw length-append (omega arith)
 
 -- ---- the loop that writes: the first k numbers are written, up to place i
 pub record Encoded (s : List ℤ) (room : List ℕ) (k i : ℕ) (out : List ℕ) : Type 0 where

@@ -2,4 +2,5 @@
 #![tactic(auto)]
 
 pub mod number;
+pub mod spelled;
 pub mod stream;

@@ -1,64 +1,54 @@
 // One number and its bytes: at most three groups of seven bits, low group first.
-ghost use Rattle.std.specs.Prelude.{true, ◌≡◌, ◌+◌, ◌-◌, ◌*◌, ◌≤◌, ◌<◌, pos, nat_abs, length, drop};
+ghost use Rattle.std.specs.Prelude.{◌≡◌, ◌+◌, ◌*◌, ◌≤◌, ◌<◌, length, drop};
 ghost use Rattle.std.proofs.lemmas.List.Edits.{sets};
-ghost use Rattle.std.specs.Int.Signed.{lt_z};
-ghost use Rattle.rules.specs.Recipes.{code, value, spell, none, ahead, group, number};
+ghost use Rattle.rules.specs.Recipes.{code, value, spell, ahead, group, number};
 ghost use Rattle.recipebytes.specs.Codes.{codes};
 ghost use Rattle.recipebytes.specs.Groups.{Small};
+ghost use Rattle.recipebytes.specs.Spelled.{spelled};
 
-use rules::Spelt;
+use crate::spelled::Spelled;
 
-// No number.
-fn none() -> Spelt
-    ensures { result ≡ none }
-{
-    Spelt { size: 0, code: 0 }
-}
+// A group of seven bits is below this, and so is one with its top bit taken off.
+pub const GROUP: u32 = 128;
+
+// A code of at most two groups is below this.
+pub const TWO_GROUPS: u32 = GROUP * GROUP;
 
 // A group before what the next groups spell: no number, if they spell none.
-fn ahead(g: u32, next: Spelt) -> Spelt
-    requires { (g < 128) × Small 2 (128 * 128) next }
-    ensures { result ≡ ahead g next }
+fn ahead(g: u32, next: Option<Spelled>) -> Option<Spelled>
+    requires { (g < 128) × Small 2 (128 * 128) (spelled next) }
+    ensures { spelled result ≡ ahead g (spelled next) }
 {
-    if next.size == 0 {
-        return none();
-    }
-    Spelt {
-        size: next.size + 1,
-        code: g + Spelt::GROUP * next.code,
-    }
+    next.map(|r| Spelled {
+        size: r.size + 1,
+        code: g + GROUP * r.code,
+    })
 }
 
 // The group at i before what the next groups spell. The last group is 0 only if it stands alone.
 #[tactic(auto, unfolding(rules::specs::Recipes::group))]
-fn group(bytes: &[u8], i: usize, alone: bool, next: Spelt) -> Spelt
-    requires { Small 2 (128 * 128) next }
-    ensures { result ≡ group alone (drop i bytes.now) next }
+fn group(bytes: &[u8], i: usize, alone: bool, next: Option<Spelled>) -> Option<Spelled>
+    requires { Small 2 (128 * 128) (spelled next) }
+    ensures { spelled result ≡ group alone (drop i bytes.now) (spelled next) }
 {
-    if i >= bytes.len() {
-        return none();
+    let x = u32::from(*bytes.get(i)?);
+    if x >= GROUP {
+        ahead(x % GROUP, next)
+    } else if x != 0 || alone {
+        Some(Spelled { size: 1, code: x })
+    } else {
+        None
     }
-    let x = bytes[i] as u32;
-    if x >= Spelt::GROUP {
-        return ahead(x % Spelt::GROUP, next);
-    }
-    if x != 0 {
-        return Spelt { size: 1, code: x };
-    }
-    if alone {
-        return Spelt { size: 1, code: x };
-    }
-    none()
 }
 
-// The number at i, or none: the last of three groups is read first, since each is judged by what follows it.
-pub fn read_number(bytes: &[u8], i: usize) -> Spelt
-    ensures { result ≡ number (drop i bytes.now) }
+// The number at i, if one stands there: the last of three groups is read first, since each is judged by what follows it.
+pub fn read_number(bytes: &[u8], i: usize) -> Option<Spelled>
+    ensures { spelled result ≡ number (drop i bytes.now) }
 {
     if i >= bytes.len() {
-        return none();
+        return None;
     }
-    let third = group(bytes, i + 2, false, none());
+    let third = group(bytes, i + 2, false, None);
     let second = group(bytes, i + 1, false, third);
     group(bytes, i, true, second)
 }
@@ -68,41 +58,31 @@ pub fn value_of(u: u32) -> i32
     ensures { result ≡ value u }
 {
     let h = (u / 2) as i32;
-    if u % 2 == 0 {
-        return h;
-    }
-    -h - 1
+    if u % 2 == 0 { h } else { -h - 1 }
 }
 
-// How far below -1 a number below 0 is: -(v + 1) fits where -v may not.
-pub fn below(v: i32) -> u32
-    requires { lt_z v (pos 0) ≡ true }
-    ensures { result ≡ nat_abs v - 1 }
-{
-    -(v + 1) as u32
-}
-
-// The code of a number.
+// The code of a number. Below zero, how far it is below -1 fits doubled, where how far it is below 0 may not.
 pub fn code_of(v: i32) -> u32
     ensures { result ≡ code v }
 {
     if v < 0 {
-        return 2 * below(v) + 1;
+        2 * (v.unsigned_abs() - 1) + 1
+    } else {
+        2 * v.unsigned_abs()
     }
-    2 * (v as u32)
 }
 
 // How many bytes a code takes.
 pub fn code_size(u: u32) -> usize
     ensures { result ≡ length (spell 2 u) }
 {
-    if u < Spelt::GROUP {
-        return 1;
+    if u < GROUP {
+        1
+    } else if u < TWO_GROUPS {
+        2
+    } else {
+        3
     }
-    if u < Spelt::TWO_GROUPS {
-        return 2;
-    }
-    3
 }
 
 // Writes the bytes of a code from i on; answers where the next one starts.
@@ -110,17 +90,17 @@ pub fn write_code(out: &mut [u8], i: usize, u: u32) -> usize
     requires { (u < codes) × (i + length (spell 2 u) ≤ length out.old) }
     ensures { (result ≡ i + length (spell 2 u)) × (out.new ≡ sets out.old i (spell 2 u)) }
 {
-    if u < Spelt::GROUP {
+    if u < GROUP {
         out[i] = u as u8;
         return i + 1;
     }
-    out[i] = (Spelt::GROUP + u % Spelt::GROUP) as u8;
-    let w = u / Spelt::GROUP;
-    if w < Spelt::GROUP {
+    out[i] = (GROUP + u % GROUP) as u8;
+    let w = u / GROUP;
+    if w < GROUP {
         out[i + 1] = w as u8;
         return i + 2;
     }
-    out[i + 1] = (Spelt::GROUP + w % Spelt::GROUP) as u8;
-    out[i + 2] = (w / Spelt::GROUP) as u8;
+    out[i + 1] = (GROUP + w % GROUP) as u8;
+    out[i + 2] = (w / GROUP) as u8;
     i + 3
 }

@@ -1,6 +1,6 @@
 -- THE PROMISES OF A RECTANGLE'S CALLS. `forward`, `inverse` and `allowance` have the contracts `Gives a m (ruled k forward_call
--- (joint c r) x y)`, and so on: k is the number of the rule (request R-5), any number at all; a is the answer, m what the lent
--- output holds then. Each theorem is about what these calls returned, and has one k throughout.
+-- (joint c r) x y)`, and so on: k is the number of the rule (request R-5), any number at all; a is the answer, `answered` of the
+-- result, and m what the lent output holds then. Each theorem is about what these calls returned, and has one k throughout.
 use Rattle.std.specs.Prelude.{List, ◌≡◌, ℕ, ◌*◌, ◌^◌, ◌<◌, ℤ, pos, nat_abs, ◌-ℤ◌, ◌*ℤ◌, length, ◌≤ℤ◌}
 use Rattle.rules.specs.declared.Answer.{Answer}
 use Rattle.rules.specs.Numbers.{unit, unit², at, count}

@@ -102,11 +102,11 @@ module _ {task : Task} {c : List ℤ} {fa : Layout} {r : List ℤ} {fb : Layout}
           long = w.keeps ∙ a.long;
         }
 
-    pub row-stops : ok ≡ false → Weighed task rule c fa r fb x ok z
-    row-stops t =
+    pub row-stops : {b : Bool} → ok ≡ false → b ≡ false → Weighed task rule c fa r fb x b z
+    row-stops t n =
         let room : fa.order * fb.order ≤ length x = omega
         (arith, mul-le-mul h.column.order h.row.order, h.long) in (
-          rw t
+          rw n
               (step-stops
               (row-stopped (pair-order-permutes fa h.low1 task fb h.low2) (limit_of task) _ x room fa.order fb.order s
               (row_order task fb i) refl l turns a.block (told.stopped t))),
@@ -144,10 +144,10 @@ module _ {task : Task} {rule : Rule} {c : List ℤ} {fa : Layout} {r : List ℤ}
       stopped = λ f. absurd (true-false refl f);
     }
 
-    pub turns-stop : {b : ℕ} → ok ≡ false → TurnsDone task rule c fa r fb a b y ok z
-    turns-stop o = record {
-      through = λ f. absurd (true-false f o);
-      stopped = λ _ h k. row-stops h l (t.through refl h k) e w o;
+    pub turns-stop : {b : ℕ} {g : Bool} → ok ≡ false → g ≡ false → TurnsDone task rule c fa r fb a b y g z
+    turns-stop o n = record {
+      through = λ f. absurd (true-false f n);
+      stopped = λ _ h k. row-stops h l (t.through refl h k) e w o n;
     }
 
 -- ---- how all turns end: after the turns from a on, or the row of the last one
@@ -162,4 +162,4 @@ module _ {task : Task} {rule : Rule} {c : List ℤ} {fa : Layout} {r : List ℤ}
       RowDone (limit_of task) (element_of task rule c fa r fb y) (row_order task fb i) fb.order y z ok →
       Weighed task rule c fa r fb x ok z
   row_last {ok = true} n k e w = rows_all n (row_more h (omega arith) k e w refl)
-  row_last {ok = false} n k e w = row-stops h (omega arith) k e w refl
+  row_last {ok = false} n k e w = row-stops h (omega arith) k e w refl refl

@@ -10,10 +10,11 @@ use Rattle.rules.specs.Stages.{Ran, done, beyond, fill, inside}
 use Rattle.rules.specs.Answers.{start}
 use Rattle.rules.proofs.Laws.Lists.{length-fill, fill-at, fill-past}
 use Rattle.rules.proofs.Laws.Runs.{loop-start}
+use Rattle.laws.specs.Sound.{counts-agree}
 use Rattle.factor.specs.declared.run.Task.{Task}
 use Rattle.factor.specs.declared.run.Task.TheVariants.{Forward, Inverse, Allowance}
 use Rattle.factor.specs.declared.run.Run.{Run}
-use Rattle.factor.specs.declared.run.Outcome.{Outcome}
+use Rattle.factor.specs.Outcomes.{Outcome}
 use Rattle.factor.specs.Layouts.{layout_by, layout_at, is_move}
 use Rattle.factor.specs.LayoutInSheet.{move-yes, Paired}
 use Rattle.factor.specs.SumBounds.{Bounded}
@@ -75,6 +76,17 @@ abbrev pub Stored : Run → List ℤ → List ℤ → ℕ → List ℤ → List 
 Stored run c r t block y z = (ran : Ran) → StandsAt run c r ran t block → Written ran y z
 
 -- ---- laws
+module _ {c r : List ℤ} (m : Matched c r) (task : Task) (t : ℕ) (l : t < count c 1) where
+  -- the row sheet has as many factors
+  pub row-has : t < count r 1
+  row-has = rw (counts-agree _ _ m.match) l
+
+  -- the pair in turn t, as the code holds the orders and the starts
+  pub pair-in-turn : {n1 n2 i j : ℕ} → n1 ≡ count c 0 → n2 ≡ count r 0 → i ≡ start c (in_turn c task t) →
+      j ≡ start r (in_turn r task t) →
+      Paired c r n1 n2 i j
+  pair-in-turn a b d e = paired m _ (stage-below task _ t l) a b d (e ∙ rw (counts-agree _ _ m.match))
+
 -- numbers are lent for a whole block
 pub all-lent : (task : Task) (n : ℕ) → 0 < inputs_of task n → inputs_of task n ≡ n
 unfolding inputs_of

@@ -1,14 +1,15 @@
 -- THE ORDERS IN WHICH A PAIR OF FACTORS IS UNDONE AND APPLIED: the rows by the one factor's order, the columns of a row by the
 -- other's; applied, the rows the other way round, so that none looks at a row written before it.
-use Rattle.std.specs.Prelude.{false, cond, List, ◌≢◌, ◌⊎◌, ℤ}
+use Rattle.std.specs.Prelude.{Bool, false, cond, not, List, ◌≢◌, ◌⊎◌, ℤ}
 use Rattle.std.proofs.Common.{inl, inr, sym, ap, ◌∙◌}
-use Rattle.std.proofs.Math.Path.{◌≡◌}
+use Rattle.std.proofs.Math.Path.{◌≡◌, refl}
 use Prim.Native.Nat.{ℕ, suc, ◌+◌, ◌-◌, ◌*◌, ◌/◌, ◌%◌, ◌<◌}
 use Rattle.std.proofs.Math.Decide.{dec_lt}
 use Rattle.std.proofs.Math.Nat as NatL
 use native.Mathlib.Omega.{arith}
 use Rattle.rules.specs.declared.Rule.{Rule}
-use Rattle.rules.specs.declared.Kind.TheVariants.{Lower, Upper, Single}
+use Rattle.rules.specs.declared.Kind.{Kind}
+use Rattle.rules.specs.declared.Kind.TheVariants.{Permutation, Lower, Upper, Single}
 use Rattle.rules.specs.Numbers.{at}
 use Rattle.rules.specs.GoodStages.{Permutes}
 use Rattle.rules.proofs.Laws.SoundFactors.{same-permutes}
@@ -113,6 +114,30 @@ module _ (f : Layout) (s : ℕ) where
   pub upper-undone : f.kind ≡ Upper → s < f.order → f.order - 1 - s ≡ nth_row Inverse f s
   unfolding nth_row is_inverse nth_undone
   upper-undone e l = rw e (omega arith)
+
+-- whether the last row comes first, under a lower or an upper factor
+unfoldable pub is_upward : Task → Kind → Bool
+is_upward task Lower = not (is_inverse task)
+is_upward task kind = is_inverse task
+
+pub triangle-row : (task : Task) (f : Layout) (s : ℕ) → s < f.order → f.kind ≢ Permutation → f.kind ≢ Single →
+    cond (is_upward task f.kind) (f.order - 1 - s) s ≡ nth_row task f s
+unfolding is_upward nth_row is_inverse nth_undone
+triangle-row task f s l p q = go task f.kind refl
+  where
+    asked : (t : Task) {kind : Kind} → f.kind ≡ kind →
+        cond (is_upward t f.kind) (f.order - 1 - s) s ≡ cond (is_upward t kind) (f.order - 1 - s) s
+    asked t z = ap (λ (k : Kind). cond (is_upward t k) (f.order - 1 - s) s) z
+
+    go : (t : Task) (kind : Kind) → f.kind ≡ kind → cond (is_upward t f.kind) (f.order - 1 - s) s ≡ nth_row t f s
+    go t Permutation z = absurd (p z)
+    go t Single z = absurd (q z)
+    go Forward Lower z = asked Forward z ∙ lower-applied f s z l
+    go Inverse Lower z = asked Inverse z ∙ lower-undone f s z
+    go Allowance Lower z = asked Allowance z ∙ lower-applied f s z l
+    go Forward Upper z = asked Forward z ∙ upper-applied f s z l
+    go Inverse Upper z = asked Inverse z ∙ upper-undone f s z l
+    go Allowance Upper z = asked Allowance z ∙ upper-applied f s z l
 
 -- the rows of a single-row factor in turn: applied, its row comes first, and undone, last
 module _ (f : Layout) (e : f.kind ≡ Single) where

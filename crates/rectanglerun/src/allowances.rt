@@ -1,7 +1,9 @@
 // A pair of factors with weights, on allowances: row by row, in place.
+ghost use Rattle.std.specs.Prelude.{is_ok};
 ghost use Rattle.rectanglerun.specs.RowsInTurn.{Weighable, Weighed};
 
-use factor::run::{Outcome, Task};
+use factor::bounds::Beyond;
+use factor::run::Task;
 use factor::{Layout, nth_undone};
 use joint::rows::allow_row;
 use rules::{Block, Rule};
@@ -15,18 +17,15 @@ pub fn allow_rows(
     row: &[i32],
     fb: Layout,
     x: &mut [i32; Block::CELLS],
-) -> Outcome
+) -> Result<(), Beyond>
     requires { Weighable Task.Allowance col.now fa row.now fb x.old }
     ensures { Weighed Task.Allowance rule col.now fa row.now fb x.old
-        result.ok x.new }
+        (is_ok result) x.new }
 {
     let n = fa.order;
     for s in 0..n {
         let i = nth_undone(fa, n - 1 - s);
-        let r = allow_row(rule, col, fa, row, fb, i, x);
-        if !r.ok {
-            return r;
-        }
+        allow_row(rule, col, fa, row, fb, i, x)?;
     }
-    Outcome { ok: true, stage: 0 }
+    Ok(())
 }

@@ -1,5 +1,5 @@
 // A pair of single-row factors, row by row, in place. The row with entries is taken apart from the rows beside it.
-ghost use Rattle.std.specs.Prelude.{◌≡◌, ◌-◌, ◌<◌};
+ghost use Rattle.std.specs.Prelude.{◌≡◌, ◌-◌, ◌<◌, is_ok};
 ghost use Rattle.rules.specs.declared.Kind.TheVariants.{Single};
 ghost use Rattle.factor.specs.UndoingOrder.{nth_undone};
 ghost use Rattle.factor.specs.Rounding.{rule_by};
@@ -7,7 +7,8 @@ ghost use Rattle.singlerows.specs.LaidRows.{Laid};
 ghost use Rattle.rectanglerun.specs.RowsInTurn.{Weighable, Weighed, TurnsDone};
 
 use factor::Layout;
-use factor::run::{Outcome, Task, is_written};
+use factor::bounds::Beyond;
+use factor::run::Task;
 use rules::Block;
 use singlerows::{
     apply_beside, apply_crossing, lay_entries, lay_signs, undo_beside, undo_crossing,
@@ -41,21 +42,18 @@ fn apply_rows_beside(
     g: &[i32; Block::LINE],
     w: &[i32; Block::LINE],
     x: &mut [i32; Block::CELLS],
-) -> Outcome
+) -> Result<(), Beyond>
     requires { Weighable Task.Forward col.now fa row.now fb x.old × (fb.kind ≡ Single)
         × Laid row.now fb n g.now w.now }
     ensures { TurnsDone Task.Forward (rule_by down even) col.now fa row.now fb 1 fa.order
-        x.old result.ok x.new }
+        x.old (is_ok result) x.new }
 {
     let m = fa.order;
     for s in 1..m {
         let i = nth_single(fa, m - 1 - s);
-        let r = apply_beside(down, even, col, fa, row, fb, n, g, w, i, x);
-        if !r.ok {
-            return r;
-        }
+        apply_beside(down, even, col, fa, row, fb, n, g, w, i, x)?;
     }
-    Outcome { ok: true, stage: 0 }
+    Ok(())
 }
 
 // The same; where rows have 4, 8 or 16 numbers the compiler is told so, and writes their sums out.
@@ -69,23 +67,18 @@ fn apply_all_beside(
     g: &[i32; Block::LINE],
     w: &[i32; Block::LINE],
     x: &mut [i32; Block::CELLS],
-) -> Outcome
+) -> Result<(), Beyond>
     requires { Weighable Task.Forward col.now fa row.now fb x.old × (fb.kind ≡ Single)
         × Laid row.now fb fb.order g.now w.now }
     ensures { TurnsDone Task.Forward (rule_by down even) col.now fa row.now fb 1 fa.order
-        x.old result.ok x.new }
+        x.old (is_ok result) x.new }
 {
-    let n = fb.order;
-    if is_written(even, n, 4) {
-        return apply_rows_beside(down, false, col, fa, row, fb, 4, g, w, x);
+    match fb.order {
+        4 if !even => apply_rows_beside(down, false, col, fa, row, fb, 4, g, w, x),
+        8 if !even => apply_rows_beside(down, false, col, fa, row, fb, 8, g, w, x),
+        16 if !even => apply_rows_beside(down, false, col, fa, row, fb, 16, g, w, x),
+        n => apply_rows_beside(down, even, col, fa, row, fb, n, g, w, x),
     }
-    if is_written(even, n, 8) {
-        return apply_rows_beside(down, false, col, fa, row, fb, 8, g, w, x);
-    }
-    if is_written(even, n, 16) {
-        return apply_rows_beside(down, false, col, fa, row, fb, 16, g, w, x);
-    }
-    apply_rows_beside(down, even, col, fa, row, fb, n, g, w, x)
 }
 
 // All rows applied. Row r, which looks at the others, comes first.
@@ -98,18 +91,15 @@ pub fn apply_single_rows(
     row: &[i32],
     fb: Layout,
     x: &mut [i32; Block::CELLS],
-) -> Outcome
+) -> Result<(), Beyond>
     requires { Weighable Task.Forward col.now fa row.now fb x.old × (fb.kind ≡ Single) }
     ensures { Weighed Task.Forward (rule_by down even) col.now fa row.now fb x.old
-        result.ok x.new }
+        (is_ok result) x.new }
 {
     let g = lay_signs(row, fb);
     let w = lay_entries(row, fb);
     let i = fa.row;
-    let r = apply_crossing(down, even, col, fa, row, fb, i, x);
-    if !r.ok {
-        return r;
-    }
+    apply_crossing(down, even, col, fa, row, fb, i, x)?;
     apply_all_beside(down, even, col, fa, row, fb, &g, &w, x)
 }
 
@@ -126,21 +116,18 @@ fn undo_rows_beside(
     g: &[i32; Block::LINE],
     w: &[i32; Block::LINE],
     x: &mut [i32; Block::CELLS],
-) -> Outcome
+) -> Result<(), Beyond>
     requires { Weighable Task.Inverse col.now fa row.now fb x.old × (fb.kind ≡ Single)
         × Laid row.now fb n g.now w.now }
     ensures { TurnsDone Task.Inverse (rule_by down even) col.now fa row.now fb 0 (fa.order - 1)
-        x.old result.ok x.new }
+        x.old (is_ok result) x.new }
 {
     let m = fa.order;
     for s in 0..m - 1 {
         let i = nth_single(fa, s);
-        let r = undo_beside(down, even, col, fa, row, fb, n, g, w, i, x);
-        if !r.ok {
-            return r;
-        }
+        undo_beside(down, even, col, fa, row, fb, n, g, w, i, x)?;
     }
-    Outcome { ok: true, stage: 0 }
+    Ok(())
 }
 
 // The same; where rows have 4, 8 or 16 numbers the compiler is told so, and writes their sums out.
@@ -154,23 +141,18 @@ fn undo_all_beside(
     g: &[i32; Block::LINE],
     w: &[i32; Block::LINE],
     x: &mut [i32; Block::CELLS],
-) -> Outcome
+) -> Result<(), Beyond>
     requires { Weighable Task.Inverse col.now fa row.now fb x.old × (fb.kind ≡ Single)
         × Laid row.now fb fb.order g.now w.now }
     ensures { TurnsDone Task.Inverse (rule_by down even) col.now fa row.now fb 0 (fa.order - 1)
-        x.old result.ok x.new }
+        x.old (is_ok result) x.new }
 {
-    let n = fb.order;
-    if is_written(even, n, 4) {
-        return undo_rows_beside(down, false, col, fa, row, fb, 4, g, w, x);
+    match fb.order {
+        4 if !even => undo_rows_beside(down, false, col, fa, row, fb, 4, g, w, x),
+        8 if !even => undo_rows_beside(down, false, col, fa, row, fb, 8, g, w, x),
+        16 if !even => undo_rows_beside(down, false, col, fa, row, fb, 16, g, w, x),
+        n => undo_rows_beside(down, even, col, fa, row, fb, n, g, w, x),
     }
-    if is_written(even, n, 8) {
-        return undo_rows_beside(down, false, col, fa, row, fb, 8, g, w, x);
-    }
-    if is_written(even, n, 16) {
-        return undo_rows_beside(down, false, col, fa, row, fb, 16, g, w, x);
-    }
-    undo_rows_beside(down, even, col, fa, row, fb, n, g, w, x)
 }
 
 // All rows undone. Row r comes last, since it looks at the others as they were.
@@ -183,17 +165,14 @@ pub fn undo_single_rows(
     row: &[i32],
     fb: Layout,
     x: &mut [i32; Block::CELLS],
-) -> Outcome
+) -> Result<(), Beyond>
     requires { Weighable Task.Inverse col.now fa row.now fb x.old × (fb.kind ≡ Single) }
     ensures { Weighed Task.Inverse (rule_by down even) col.now fa row.now fb x.old
-        result.ok x.new }
+        (is_ok result) x.new }
 {
     let g = lay_signs(row, fb);
     let w = lay_entries(row, fb);
-    let r = undo_all_beside(down, even, col, fa, row, fb, &g, &w, x);
-    if !r.ok {
-        return r;
-    }
+    undo_all_beside(down, even, col, fa, row, fb, &g, &w, x)?;
     let i = fa.row;
     undo_crossing(down, even, col, fa, row, fb, i, x)
 }

@@ -1,5 +1,5 @@
 // One stage of a rectangle: the factors at place i of a checked column sheet and at place j of a checked row sheet.
-ghost use Rattle.std.specs.Prelude.{◌≡◌, ◌*◌, length};
+ghost use Rattle.std.specs.Prelude.{◌≡◌, ◌*◌, length, is_ok};
 ghost use Rattle.rules.specs.Numbers.{most_cells};
 ghost use Rattle.rules.specs.Factors.{factor_at};
 ghost use Rattle.rules.specs.Shapes.{joint_stage};
@@ -10,14 +10,18 @@ ghost use Rattle.factor.specs.LayoutInSheet.{Paired};
 
 use crate::allowances::allow_rows;
 use crate::singles::{apply_single_rows, undo_single_rows};
-use crate::triangles::{apply_lower_rows, apply_upper_rows, undo_lower_rows, undo_upper_rows};
-use factor::run::{Outcome, Run, Task, is_down, is_even};
+use crate::triangles::all_rows;
+use factor::bounds::Beyond;
+use factor::run::{Run, Task, is_down, is_even};
 use factor::{is_move, layout_at};
 use pairmoves::move_pair;
 use rules::{Block, Kind};
+use trianglerows::applied::{apply_lower_row, apply_upper_row};
+use trianglerows::undone::{undo_lower_row, undo_upper_row};
 
 // A pair of permutations moves the numbers, and can leave no bound. A pair of factors with weights makes new ones, row by row; it
 // stops at the first number beyond the bound, and the block is not looked at again then: later sums could leave 64 bits.
+// After the test a permutation is met no more: its two arms below are never taken.
 // All tasks and kinds are told apart in this one function. So the compiler keeps it apart from the function that holds the block,
 // and its rows share one frame.
 #[tactic(auto, unfolding(factor::specs::Layouts::layout_at, factor::specs::Layouts::layout_by))]
@@ -30,12 +34,12 @@ pub fn run_stage(
     i: usize,
     j: usize,
     x: &mut [i32; Block::CELLS],
-) -> Outcome
+) -> Result<(), Beyond>
     requires { Paired col.now row.now n1 n2 i j × Bounded (limit_of run.task) x.old
         × (length x.old ≡ most_cells) }
     ensures { Step (limit_of run.task) (n1 * n2)
         (taken_by run (n1 * n2) (joint_stage n1 n2 (factor_at col.now n1 i) (factor_at row.now n2 j))
-        x.old) result.ok x.new × (length x.new ≡ most_cells) }
+        x.old) (is_ok result) x.new × (length x.new ≡ most_cells) }
 {
     let task = run.task;
     let rule = run.rule;
@@ -43,24 +47,24 @@ pub fn run_stage(
     let fb = layout_at(row, n2, j);
     if is_move(fb) {
         move_pair(col, fa, row, fb, task, x);
-        return Outcome { ok: true, stage: 0 };
+        return Ok(());
     }
     let down = is_down(rule);
     let even = is_even(rule);
     let kind = fb.kind;
     match task {
         Task::Forward => match kind {
-            Kind::Lower => return apply_lower_rows(down, even, col, fa, row, fb, x),
-            Kind::Upper => return apply_upper_rows(down, even, col, fa, row, fb, x),
-            Kind::Single => return apply_single_rows(down, even, col, fa, row, fb, x),
-            Kind::Permutation => return Outcome { ok: true, stage: 0 }
+            Kind::Lower => all_rows(apply_lower_row, task, down, even, col, fa, row, fb, x),
+            Kind::Upper => all_rows(apply_upper_row, task, down, even, col, fa, row, fb, x),
+            Kind::Single => apply_single_rows(down, even, col, fa, row, fb, x),
+            Kind::Permutation => Ok(()),
         },
         Task::Inverse => match kind {
-            Kind::Lower => return undo_lower_rows(down, even, col, fa, row, fb, x),
-            Kind::Upper => return undo_upper_rows(down, even, col, fa, row, fb, x),
-            Kind::Single => return undo_single_rows(down, even, col, fa, row, fb, x),
-            Kind::Permutation => return Outcome { ok: true, stage: 0 }
+            Kind::Lower => all_rows(undo_lower_row, task, down, even, col, fa, row, fb, x),
+            Kind::Upper => all_rows(undo_upper_row, task, down, even, col, fa, row, fb, x),
+            Kind::Single => undo_single_rows(down, even, col, fa, row, fb, x),
+            Kind::Permutation => Ok(()),
         },
-        Task::Allowance => return allow_rows(rule, col, fa, row, fb, x),
+        Task::Allowance => allow_rows(rule, col, fa, row, fb, x),
     }
 }

@@ -2,7 +2,7 @@
 use Rattle.std.specs.Prelude.{Bool, not, cond, List, ◌≡◌, ℕ, zero, suc, ◌+◌, ◌*◌, min, eqb, ℤ, length, drop}
 use Rattle.std.specs.Borrow.{Bor}
 use Rattle.rules.specs.declared.Answer.{Answer}
-use Rattle.rules.specs.declared.Mark.{Mark}
+use Rattle.rules.specs.Marks.{Mark}
 use Rattle.rules.specs.Numbers.{count}
 use Rattle.rules.specs.Sheets.{kind_of, reading}
 use Rattle.rules.specs.Factors.{numbers}

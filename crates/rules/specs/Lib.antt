@@ -1,4 +1,5 @@
 pub mod Numbers
+pub mod Marks
 pub mod Sheets
 pub mod Factors
 pub mod Stages
@@ -7,6 +8,7 @@ pub mod Matrices
 pub mod Recipes
 pub mod Answers
 pub mod Calls
+pub mod Results
 pub mod Strips
 pub mod GoodStages
 pub mod Figures

@@ -1,7 +1,7 @@
 -- "RECIPE BYTES" of document 01.
 use Rattle.std.specs.Prelude.{Bool, true, false, cond, List, [], ◌∷◌, ◌++◌, ℕ, zero, suc, ◌+◌, ◌-◌, ◌*◌, ◌/◌, ◌%◌, eqb, ltb, ℤ, pos, negsuc, nat_abs, length, drop}
 use Rattle.std.specs.Int.Signed.{non_neg}
-use Rattle.rules.specs.declared.Spelt.{Spelt}
+use Rattle.rules.specs.Marks.{Spelt}
 
 -- ---- one number
 -- "Each sheet number v becomes 2v, or -2v-1 below zero", and back

@@ -3,7 +3,8 @@
 #![tactic(auto)]
 
 ghost use Rattle.std.specs.Prelude.{◌≡◌};
-ghost use Rattle.rules.specs.Answers.{accepted, counted, refused, refused_at};
+ghost use Rattle.rules.specs.Answers.{refused};
+ghost use Rattle.rules.specs.Results.{fault_number, side_number, refused_for, answered, count_answered, RuleGiven};
 
 // A sheet: the numbers of one recipe. The limits of "Numbers and their bounds" that bound a sheet's numbers are named here. A
 // call is lent a sheet as a slice, so the type has no fields.
@@ -72,9 +73,6 @@ impl Scale {
     pub const JOINT_HALF: i64 = Self::JOINT / 2;
 
     pub const JOINT_UP: i64 = Self::JOINT - 1;
-
-    // A shift by one bit halves.
-    pub const PAIR_BITS: i64 = 1;
 }
 
 // The four kinds of factor.
@@ -102,6 +100,25 @@ impl Rule {
     pub const SHARE_DOWN: i64 = 2 * Self::SHARE;
 }
 
+// The rule of a number, or 16.
+impl TryFrom<u32> for Rule {
+    type Error = Refusal;
+
+    ghost try_from_gives = { RuleGiven };
+
+    #[tactic(auto, unfolding(crate::specs::Calls::rule_of))]
+    fn try_from(number: u32) -> Result<Self, Refusal> {
+        if number > 2 {
+            return Err(Refusal::new(Fault::Rule, Side::First, 0));
+        }
+        match number {
+            1 => Ok(Rule::Down),
+            2 => Ok(Rule::Even),
+            _ => Ok(Rule::Nearest),
+        }
+    }
+}
+
 // What a number of a sheet stands for: with a row or a place the order, and with a place where its permutation starts.
 #[derive(Clone, Copy)]
 pub enum Item {
@@ -114,28 +131,93 @@ pub enum Item {
     Entry,
 }
 
-// Where a reader stands: number 0 and the next place, or a fault's number and its place.
-#[derive(Clone, Copy)]
-pub struct Mark {
-    pub number: u32,
+// What a call is refused for, with the number of each fault in "What comes back".
+#[derive(Clone, Copy, Debug, PartialEq, Eq)]
+pub enum Fault {
+    // The sheet ends where a number is needed.
+    Ended = 1,
+    Order = 2,
+    Count = 3,
+    Kind = 4,
+    // A row or a place that is not one of 0 to n - 1.
+    Place = 5,
+    // A place of a permutation that stands before.
+    Repeated = 6,
+    Sign = 7,
+    Entry = 8,
+    // Numbers are left after the last factor.
+    Leftover = 9,
+    // A slice has another length.
+    Length = 10,
+    // A sample or coefficient lies beyond the bound.
+    Sample = 11,
+    // Two sheets do not match.
+    Mismatch = 12,
+    // An allowance lies beyond its limit.
+    Allowance = 13,
+    // The bytes of a number are cut, too many, or not the shortest.
+    Spelling = 14,
+    // There is no room for what a call writes.
+    Room = 15,
+    // A number that is no rule's.
+    Rule = 16,
+}
+
+impl Fault {
+    pub fn number(self) -> u32
+        ensures { result ≡ fault_number self }
+    {
+        self as u32
+    }
+}
+
+// Which of two: the column sheet, the input; or the row sheet, the output.
+#[derive(Clone, Copy, Debug, PartialEq, Eq)]
+pub enum Side {
+    First = 0,
+    Second = 1,
+}
+
+impl Side {
+    pub fn number(self) -> u32
+        ensures { result ≡ side_number self }
+    {
+        self as u32
+    }
+}
+
+// The first fault of a sheet, and where it stands there.
+#[derive(Clone, Copy, Debug, PartialEq, Eq)]
+pub struct Found {
+    pub fault: Fault,
     pub place: usize,
 }
 
-// The number that some bytes spell: how many bytes, and the code; size 0 if they spell none.
-#[derive(Clone, Copy)]
-pub struct Spelt {
-    pub size: usize,
-    pub code: u32,
+// Why a call is refused, and where. The element is that of a block, counted row by row, whose number lies beyond the bound; it is
+// 0 for every other fault.
+#[derive(Clone, Copy, Debug, PartialEq, Eq)]
+pub struct Refusal {
+    pub fault: Fault,
+    pub side: Side,
+    pub place: u64,
+    pub element: u64,
 }
 
-impl Spelt {
-    // A group has seven bits. A code below this has one group, one below the next has two.
-    pub const GROUP: u32 = 128;
-
-    pub const TWO_GROUPS: u32 = Self::GROUP * Self::GROUP;
+impl Refusal {
+    // Refused for something else than an element.
+    pub fn new(fault: Fault, side: Side, place: u64) -> Self
+        ensures { refused_for result ≡ refused (fault_number fault) (side_number side) place }
+    {
+        Refusal {
+            fault,
+            side,
+            place,
+            element: 0,
+        }
+    }
 }
 
-// What each call answers. The element is that of a block, counted row by row, whose number lies beyond the bound.
+// What a call answers in C: a refusal by its numbers, or number 0 and how much was written.
 #[repr(C)]
 #[derive(Clone, Copy)]
 pub struct Answer {
@@ -145,50 +227,41 @@ pub struct Answer {
     pub element: u64,
 }
 
-impl Answer {
-    pub fn accepted() -> Self
-        ensures { result ≡ accepted }
-    {
+impl From<Refusal> for Answer {
+    ghost from_gives = { λ r a. a ≡ refused_for r };
+
+    fn from(r: Refusal) -> Answer {
         Answer {
-            number: 0,
-            side: 0,
-            place: 0,
-            element: 0,
+            number: r.fault.number(),
+            side: r.side.number(),
+            place: r.place,
+            element: r.element,
         }
     }
+}
 
-    // Accepted by a call that can answer 15, with the count written.
-    pub fn counted(count: u64) -> Self
-        ensures { result ≡ counted count }
-    {
-        Answer {
-            number: 0,
-            side: 0,
-            place: count,
-            element: 0,
-        }
+// The answer of a call that gives nothing but what it writes.
+impl From<Result<(), Refusal>> for Answer {
+    ghost from_gives = { λ r a. a ≡ answered r };
+
+    fn from(r: Result<(), Refusal>) -> Answer {
+        Answer::from(r.map(|()| 0usize))
     }
+}
 
-    pub fn refused(number: u32, side: u32, place: u64) -> Self
-        ensures { result ≡ refused number side place }
-    {
-        Answer {
-            number,
-            side,
-            place,
-            element: 0,
-        }
-    }
+// The answer of a call that counts what it writes.
+impl From<Result<usize, Refusal>> for Answer {
+    ghost from_gives = { λ r a. a ≡ count_answered r };
 
-    // Refused for the number of an element.
-    pub fn refused_at(number: u32, side: u32, place: u64, element: u64) -> Self
-        ensures { result ≡ refused_at number side place element }
-    {
-        Answer {
-            number,
-            side,
-            place,
-            element,
+    fn from(r: Result<usize, Refusal>) -> Answer {
+        match r {
+            Ok(count) => Answer {
+                number: 0,
+                side: 0,
+                place: count as u64,
+                element: 0,
+            },
+            Err(refusal) => Answer::from(refusal),
         }
     }
 }

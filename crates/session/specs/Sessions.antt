@@ -1,18 +1,30 @@
 -- A SESSION: the lines of its calls one after another, and the parts of its numbers.
-use Rattle.std.specs.Prelude.{List, ◌++◌, ◌≡◌, refl, ℤ}
+use Rattle.std.specs.Prelude.{true, false, List, ◌++◌, ◌≡◌, refl, ℤ, Result, Ok, Err, is_err}
 use Rattle.std.proofs.Common.{append-nil, sym, ap}
 use borrow.Author.Tests.{eq-eqb, ne_eqb}
 use Rattle.rules.specs.declared.Answer.{Answer}
+use Rattle.rules.specs.declared.Refusal.{Refusal}
 use Rattle.rules.specs.declared.Rule.{Rule}
 use Rattle.rules.specs.declared.Rule.TheVariants.{Nearest}
 use Rattle.rules.specs.Calls.{Reply, Gives, Plan, line, forward_call, inverse_call, allowance_call, rule_of, ruled}
+use Rattle.rules.specs.Results.{answered}
 use Rattle.laws.specs.Plans.{under-fine}
+use Rattle.laws.specs.Results.{some-fault}
 use Rattle.printing.specs.Program.{say_forward, say_back, say_allow, replied, afterwards, ran}
 
 -- ---- the program's rule is that of document 01: its calls are by the number 0
 by-nearest : {X : Type 0} (call : Rule → Plan → X) (p : Plan) → ruled 0 call p ≡ call Nearest p
 unfolding rule_of
 by-nearest call p = ap (call Nearest) (under-fine 0 p refl)
+
+-- ---- whether a call was refused
+pub refused-some : {T : Type 0} (r : Result T Refusal) → is_err r ≡ true → (answered r).number ≡ 0 → ⊥
+refused-some (Ok x) e z = cc
+refused-some (Err d) e z = some-fault d.fault z
+
+pub refused-none : {T : Type 0} (r : Result T Refusal) → is_err r ≡ false → (answered r).number ≡ 0
+refused-none (Ok x) e = refl
+refused-none (Err d) e = absurd (let y : ⊥ = cc in y)
 
 -- ---- the lines of the calls
 abbrev pub gave : Answer → List ℤ → Reply ℤ

@@ -7,10 +7,10 @@ ghost use Rattle.printing.specs.Program.{limit, afterwards, ran, printed};
 ghost use Rattle.session.specs.Inputs.{session_of};
 ghost use Rattle.printing.specs.Stated.{Wrote};
 
-use input::{block_at, check_count};
+use input::find_block;
 use printing::{put_refusal, put_reply};
 use recipebytes::stream::{decode, scan};
-use rules::Answer;
+use rules::{Fault, Refusal, Side};
 
 mod input; // the count, the sheet and the block among the numbers that were read
 
@@ -43,7 +43,7 @@ fn put_runs(s: &[i32], x: &[i32], y: &mut [i32], z: &mut [i32], out: &mut [u8]) 
 {
     let there = line::forward(0, s, x, y);
     let i = put_reply(out, 0, b"forward", there, y);
-    if there.number != 0 {
+    if there.is_err() {
         return i;
     }
     put_afterwards(s, y, z, out, i)
@@ -54,12 +54,10 @@ fn put_session(v: &[i32], y: &mut [i32], z: &mut [i32], out: &mut [u8]) -> usize
     requires { (y.old ≡ v.now) × (z.old ≡ v.now) }
     ensures { Wrote out.old 0 (session_of v.now) out.new result }
 {
-    let a = check_count(v);
-    if a.number != 0 {
-        return put_refusal(out, 0, a);
+    match find_block(v) {
+        Ok(e) => put_runs(&v[1..e], &v[e..], &mut y[e..], &mut z[e..], out),
+        Err(refusal) => put_refusal(out, 0, refusal),
     }
-    let e = block_at(v);
-    put_runs(&v[1..e], &v[e..], &mut y[e..], &mut z[e..], out)
 }
 
 // The text for bytes that spell m numbers, and nothing more.
@@ -68,11 +66,9 @@ fn put_decoded(input: &[u8], m: usize, out: &mut [u8]) -> usize
     ensures { Wrote out.old 0 (session_of (numbers_of input.now)) out.new result }
 {
     let mut v = blank();
-    let mut y = blank();
-    let mut z = blank();
-    decode(input, &mut v, m);
-    decode(input, &mut y, m);
-    decode(input, &mut z, m);
+    decode(input, &mut v[..m]);
+    let mut y = v;
+    let mut z = v;
     put_session(&v[..m], &mut y[..m], &mut z[..m], out)
 }
 
@@ -81,11 +77,15 @@ pub fn text_of(input: &[u8], out: &mut [u8]) -> usize
     ensures { Wrote out.old 0 (printed input.now) out.new result }
 {
     if input.len() > LIMIT {
-        return put_refusal(out, 0, Answer::refused(15, 0, LIMIT as u64));
+        return put_refusal(out, 0, Refusal::new(Fault::Room, Side::First, LIMIT as u64));
     }
     let end = scan(input);
     if end.place < input.len() {
-        return put_refusal(out, 0, Answer::refused(14, 0, end.place as u64));
+        return put_refusal(
+            out,
+            0,
+            Refusal::new(Fault::Spelling, Side::First, end.place as u64),
+        );
     }
     put_decoded(input, end.count, out)
 }

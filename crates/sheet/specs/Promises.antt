@@ -10,11 +10,11 @@ use Rattle.laws.specs.Accepted.{accepted-read}
 use Rattle.laws.specs.Prefix.{accepted-length}
 use Rattle.sheet.specs.Stated.{Same}
 
--- `check` has the contract r ≡ checked s
+-- `check` has the contract a ≡ checked s; a is the answer of its result (`answered`), and tells it (`one-result`)
 pub one-check : (s : List ℤ) {a b : Answer} → a ≡ checked s → b ≡ checked s → a ≡ b
 one-check s g h = g ∙ sym h
 
--- `check_pair` has the contract r ≡ pair_checked c r
+-- `check_pair` has the contract a ≡ pair_checked c r
 pub one-pair : (c r : List ℤ) {a b : Answer} → a ≡ pair_checked c r → b ≡ pair_checked c r → a ≡ b
 one-pair c r g h = g ∙ sym h
 

@@ -3,21 +3,22 @@
 
 ghost use Rattle.std.specs.Prelude.{◌≡◌};
 ghost use Rattle.rules.specs.Answers.{checked, pair_checked, IsRest};
+ghost use Rattle.rules.specs.Results.{answered};
 
-use rules::{Answer, Sheet};
+use rules::{Refusal, Sheet};
 use sheetcheck::checks::{check_pair_starts, check_starts, read_whole};
 
-// Checks a sheet: 1 to 9. The law `accepted-read` says what a sheet has for which this answers 0.
-pub fn check(sheet: &[i32]) -> Answer
-    ensures { result ≡ checked sheet.now }
+// Checks a sheet: 1 to 9. The law `accepted-read` says what a sheet has for which this answers Ok.
+pub fn check(sheet: &[i32]) -> Result<(), Refusal>
+    ensures { answered result ≡ checked sheet.now }
 {
     let mut starts = [0u16; Sheet::FACTORS];
     check_starts(sheet, &mut starts)
 }
 
 // Checks two sheets: 1 to 9 for the column sheet, then for the row sheet, then 12. The law is `pair_read`.
-pub fn check_pair(col: &[i32], row: &[i32]) -> Answer
-    ensures { result ≡ pair_checked col.now row.now }
+pub fn check_pair(col: &[i32], row: &[i32]) -> Result<(), Refusal>
+    ensures { answered result ≡ pair_checked col.now row.now }
 {
     let mut columns = [0u16; Sheet::FACTORS];
     let mut rows = [0u16; Sheet::FACTORS];
@@ -29,16 +30,11 @@ pub fn check_pair(col: &[i32], row: &[i32]) -> Answer
 pub fn rest<'a>(col: &'a [i32], row: &'a [i32]) -> &'a [i32]
     ensures { IsRest result col.entry row.entry }
 {
-    let c = read_whole(col);
-    if c.number != 0 {
-        let p = c.place;
-        return &col[p..];
+    match read_whole(col) {
+        Err(found) => &col[found.place..],
+        Ok(end) => match read_whole(row) {
+            Err(found) => &row[found.place..],
+            Ok(_) => &col[end..],
+        },
     }
-    let r = read_whole(row);
-    if r.number != 0 {
-        let p = r.place;
-        return &row[p..];
-    }
-    let n = col.len();
-    &col[n..]
 }

@@ -1,6 +1,6 @@
 // Numbers that count something, and the kinds of factors. Callers have checked the sheet: each `requires` is a field of what the
 // law `accepted-read` gives them, so nothing is read a second time.
-ghost use Rattle.std.specs.Prelude.{◌≡◌, ◌≤◌, min, T, nat_abs};
+ghost use Rattle.std.specs.Prelude.{◌≡◌, ◌≤◌, T, nat_abs};
 ghost use Rattle.std.specs.Int.Signed.{non_neg};
 ghost use Rattle.rules.specs.Numbers.{most_order, count};
 ghost use Rattle.rules.specs.Sheets.{kind_of, triangle};
@@ -17,13 +17,6 @@ pub fn size(z: i32) -> usize
     z as usize
 }
 
-// The smaller of two counts.
-pub fn smaller(a: usize, b: usize) -> usize
-    ensures { result ≡ min a b }
-{
-    if a <= b { a } else { b }
-}
-
 // The number at i as a count. `order-counts`, `count-counts`, `kind-counts`, `row_counts` and `place-counts` give what is
 // required.
 pub fn count_at(sheet: &[i32], i: usize) -> usize
@@ -38,16 +31,12 @@ pub fn count_at(sheet: &[i32], i: usize) -> usize
 fn kind_of(number: usize) -> Kind
     ensures { result ≡ kind_of number }
 {
-    if number == 1 {
-        return Kind::Permutation;
+    match number {
+        1 => Kind::Permutation,
+        2 => Kind::Lower,
+        3 => Kind::Upper,
+        _ => Kind::Single,
     }
-    if number == 2 {
-        return Kind::Lower;
-    }
-    if number == 3 {
-        return Kind::Upper;
-    }
-    Kind::Single
 }
 
 // The kind of the factor that starts at i.

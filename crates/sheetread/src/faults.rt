@@ -1,43 +1,29 @@
-// 2 to 8: the fault of one number of a sheet, by what it stands for. 0 is no fault.
+// 2 to 8: the fault of one number of a sheet, by what it stands for.
 ghost use Rattle.std.specs.Prelude.{◌≡◌, cond, ◌-◌, ◌<◌, pos, negsuc, length};
 ghost use Rattle.rules.specs.Numbers.{at};
+ghost use Rattle.rules.specs.Results.{fault_number, faulted};
 ghost use Rattle.rules.specs.Sheets.{between, below, same, among, unless, fault_of};
 
 use crate::factors::size;
-use rules::{Item, Sheet};
+use rules::{Fault, Item, Sheet};
 
-fn fault_beyond(z: i32, lo: i32, hi: i32, fault: u32) -> u32
-    ensures { result ≡ unless (between lo hi z) fault }
+fn check_between(z: i32, lo: i32, hi: i32, fault: Fault) -> Result<(), Fault>
+    ensures { faulted result ≡ unless (between lo hi z) (fault_number fault) }
 {
-    if z < lo {
-        return fault;
+    if z < lo || z > hi {
+        return Err(fault);
     }
-    if z > hi {
-        return fault;
-    }
-    0
+    Ok(())
 }
 
-fn is_below(z: i32, n: usize) -> bool
-    ensures { result ≡ below n z }
+// 5: a row or a place is one of 0 to n - 1.
+fn check_row(z: i32, n: usize) -> Result<(), Fault>
+    ensures { faulted result ≡ unless (below n z) 5 }
 {
-    if z < 0 {
-        return false;
+    if z < 0 || size(z) >= n {
+        return Err(Fault::Place);
     }
-    size(z) < n
-}
-
-fn is_same(a: i32, b: i32) -> bool
-    ensures { result ≡ same a b }
-{
-    a == b
-}
-
-fn is_same_at(sheet: &[i32], k: usize, i: usize) -> bool
-    requires { (k < length sheet.now) × (i < length sheet.now) }
-    ensures { result ≡ same (at sheet.now k) (at sheet.now i) }
-{
-    is_same(sheet[k], sheet[i])
+    Ok(())
 }
 
 // Whether the number at i stands already among those from start to i.
@@ -46,61 +32,45 @@ fn is_used(sheet: &[i32], start: usize, i: usize) -> bool
     requires { i < length sheet.now }
     ensures { result ≡ among sheet.now (at sheet.now i) start (i - start) }
 {
-    for k in start..i {
-        if is_same_at(sheet, k, i) {
-            return true;
-        }
-    }
-    false
+    (start..i).any(|k| sheet[k] == sheet[i])
 }
 
 // 5 before 6: a place is first one of 0 to n - 1, then a new one.
 #[tactic(auto, unfolding(rules::specs::Sheets::fault_of))]
-fn place_fault(sheet: &[i32], n: usize, start: usize, i: usize) -> u32
+fn check_place(sheet: &[i32], n: usize, start: usize, i: usize) -> Result<(), Fault>
     requires { i < length sheet.now }
-    ensures { result ≡ fault_of sheet.now (Item.Place n start) i }
+    ensures { faulted result ≡ fault_of sheet.now (Item.Place n start) i }
 {
-    if !is_below(sheet[i], n) {
-        return 5;
-    }
+    check_row(sheet[i], n)?;
     if is_used(sheet, start, i) {
-        return 6;
+        return Err(Fault::Repeated);
     }
-    0
+    Ok(())
 }
 
-fn sign_fault(z: i32) -> u32
-    ensures { result ≡ cond (same z (pos 1)) 0 (unless (same z (negsuc 0)) 7) }
+fn check_sign(z: i32) -> Result<(), Fault>
+    ensures { faulted result ≡ cond (same z (pos 1)) 0 (unless (same z (negsuc 0)) 7) }
 {
-    if is_same(z, 1) {
-        return 0;
+    if z != 1 && z != -1 {
+        return Err(Fault::Sign);
     }
-    if is_same(z, -1) {
-        return 0;
-    }
-    7
-}
-
-fn row_fault(z: i32, n: usize) -> u32
-    ensures { result ≡ unless (below n z) 5 }
-{
-    if is_below(z, n) { 0 } else { 5 }
+    Ok(())
 }
 
 // The fault of the number at i, by what it stands for.
 #[tactic(auto, unfolding(rules::specs::Sheets::fault_of))]
-pub fn fault_of(sheet: &[i32], what: Item, i: usize) -> u32
+pub fn check_number(sheet: &[i32], what: Item, i: usize) -> Result<(), Fault>
     requires { i < length sheet.now }
-    ensures { result ≡ fault_of sheet.now what i }
+    ensures { faulted result ≡ fault_of sheet.now what i }
 {
     let z = sheet[i];
     match what {
-        Item::Order => return fault_beyond(z, 1, Sheet::ORDER, 2),
-        Item::Count => return fault_beyond(z, 1, Sheet::COUNT, 3),
-        Item::KindNumber => return fault_beyond(z, 1, Sheet::KIND, 4),
-        Item::Row(n) => return row_fault(z, n),
-        Item::Place(n, start) => return place_fault(sheet, n, start, i),
-        Item::Sign => return sign_fault(z),
-        Item::Entry => return fault_beyond(z, -Sheet::ENTRY, Sheet::ENTRY, 8),
+        Item::Order => check_between(z, 1, Sheet::ORDER, Fault::Order),
+        Item::Count => check_between(z, 1, Sheet::COUNT, Fault::Count),
+        Item::KindNumber => check_between(z, 1, Sheet::KIND, Fault::Kind),
+        Item::Row(n) => check_row(z, n),
+        Item::Place(n, start) => check_place(sheet, n, start, i),
+        Item::Sign => check_sign(z),
+        Item::Entry => check_between(z, -Sheet::ENTRY, Sheet::ENTRY, Fault::Entry),
     }
 }

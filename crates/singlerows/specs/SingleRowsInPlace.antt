@@ -1,6 +1,6 @@
 -- A ROW BESIDE THE ONE WITH ENTRIES, IN PLACE: turned, and its one sum put in, it is what the turns of the row leave, though the
 -- code does not write it in the order of the turns.
-use Rattle.std.specs.Prelude.{true, false, ◌≢◌, ◌≡◌, refl, leb, ℤ, nat_abs, ◌*ℤ◌, length}
+use Rattle.std.specs.Prelude.{Bool, true, false, ◌≢◌, ◌≡◌, refl, leb, ℤ, nat_abs, ◌*ℤ◌, length}
 use mathlib.Core.List.{List}
 use Rattle.std.proofs.Math.Path.{sym, ap, ap₂}
 use Rattle.std.proofs.Common.{◌∙◌, le_refl, add-one, le-ltb, length-set, set-set}
@@ -23,7 +23,7 @@ use Rattle.rules.proofs.Laws.Lists.{set_at, set_other, same-list}
 use Rattle.factor.specs.declared.Layout.{Layout}
 use Rattle.factor.specs.Layouts.{row_of}
 use Rattle.factor.specs.LayoutInSheet.{InSheet}
-use Rattle.factor.specs.SumBounds.{Bounded}
+use Rattle.factor.specs.SumBounds.{Bounded, bounded-set, Kept, kept-no, kept-yes}
 use Rattle.factor.specs.UndoingOrder.{nth_undone, undoing-permutes}
 use Rattle.factor.specs.InPlace.{in_place, length-in-place, in-place-other, apart}
 use Rattle.joint.specs.Sums.{entries_sum}
@@ -43,6 +43,15 @@ module _ {most m : ℕ} {step : List ℤ → ℕ → ℤ} {q : ℕ → ℕ} {x y
 
   pub row-beyond : length y ≡ length x → Stopped most step q m x → RowDone most step q m x y false
   row-beyond l h = record { through = λ t. absurd (true-false t refl); stopped = λ _. h; keeps = l }
+
+  -- by its last number, which goes into its place or is beyond the bound
+  pub row-kept : {z : ℤ} {e : ℕ} {w : List ℤ} {ok : Bool} → Kept most z e w ok y → length y ≡ length x → Bounded most w →
+      set w e z ≡ in_place step q m x → (leb (nat_abs z) most ≡ false → Stopped most step q m x) → RowDone most step q m x y ok
+  row-kept {z} {e} {w} k l small on far = record {
+    through = λ t. (k.put t ∙ on, rw (k.put t) (bounded-set w e small (kept-yes k t)));
+    stopped = λ t. far (kept-no k t);
+    keeps = l;
+  }
 
 -- a number beyond the bound in turn j, and a turn more
 pub turn-beyond : {most m : ℕ} (step : List ℤ → ℕ → ℤ) (q : ℕ → ℕ) (j : ℕ) (x : List ℤ) {y : List ℤ} → j < m →

@@ -2,7 +2,7 @@
 // but itself, and its one sum has a scale of 4096, since the other scale is a sign's.
 #![tactic(auto)]
 
-ghost use Rattle.std.specs.Prelude.{◌≢◌, ◌≡◌, ◌+◌, ◌*◌, ◌<◌, ◌*ℤ◌, length};
+ghost use Rattle.std.specs.Prelude.{◌≢◌, ◌≡◌, ◌+◌, ◌*◌, ◌<◌, ◌*ℤ◌, length, is_ok};
 ghost use Rattle.std.specs.Int.{w32};
 ghost use Rattle.std.proofs.Common.{SFits};
 ghost use Rattle.whole.specs.Diff.{Within};
@@ -20,8 +20,8 @@ ghost use Rattle.joint.specs.Triangles.{TotalGiven, total_of, RunGiven, applied_
 ghost use Rattle.singlerows.specs.SingleRows.{OneRow, Narrow, narrow_sum, SignsGiven, Turned, applied_beside, undone_beside};
 ghost use Rattle.singlerows.specs.LaidRows.{entry_in, entries_laid, signs_laid, Laid};
 
-use factor::rounding::{applied, is_within, round_line, undone};
-use factor::run::Outcome;
+use factor::bounds::{Beyond, keep};
+use factor::rounding::{applied, round_line, undone};
 use factor::sums::with_term;
 use factor::{Layout, nth_undone, row_of};
 use joint::elements::{
@@ -62,7 +62,8 @@ pub fn lay_entries(row: &[i32], f: Layout) -> [i32; Block::LINE]
     w
 }
 
-// The signs of the columns, laid out: from an array of its own the compiler reads several at a time.
+// The signs of the columns, laid out: from an array of its own the compiler reads several at a time. A slice of the sheet to copy
+// from would ask that the place of its signs lies in it, which `InSheet` says only of a factor that has a row.
 #[tactic(auto, unfolding(rules::specs::Stages::fill))]
 pub fn lay_signs(row: &[i32], f: Layout) -> [i32; Block::LINE]
     requires { InSheet row.now f }
@@ -198,25 +199,18 @@ pub fn apply_beside(
     w: &[i32; Block::LINE],
     i: usize,
     x: &mut [i32; Block::CELLS],
-) -> Outcome
+) -> Result<(), Beyond>
     requires { RowAsks col.now fa row.now fb i x.old × (fb.kind ≡ Single) × (i ≢ fa.row)
         × Laid row.now fb n g.now w.now }
     ensures { RowDone bound (plain (applied_of (rule_by down even) col.now fa row.now fb
-        x.old)) (in_row fb.order i) fb.order x.old x.new result.ok }
+        x.old)) (in_row fb.order i) fb.order x.old x.new (is_ok result) }
 {
     let q = fb.row;
     let d = sign_at(col, fa, i);
     let k = i * n;
     let z = applied_beside(down, even, g, w, n, q, d, k, x);
-    if !is_within(z, Block::SAMPLE) {
-        return Outcome {
-            ok: false,
-            stage: 1,
-        };
-    }
     turn_row(g, n, d, k, x);
-    x[k + q] = z as i32;
-    Outcome { ok: true, stage: 0 }
+    keep(z, Block::SAMPLE, x, k + q)
 }
 
 // The same undone: the sum is of the numbers recovered, which are those beside column q.
@@ -232,12 +226,12 @@ pub fn undo_beside(
     w: &[i32; Block::LINE],
     i: usize,
     x: &mut [i32; Block::CELLS],
-) -> Outcome
+) -> Result<(), Beyond>
     requires { RowAsks col.now fa row.now fb i x.old × (fb.kind ≡ Single) × (i ≢ fa.row)
         × Laid row.now fb n g.now w.now }
     ensures { RowDone bound (undone_of (rule_by down even) col.now fa row.now fb)
         (λ u. in_row fb.order i (nth_undone fb.kind fb.order fb.row u)) fb.order
-        x.old x.new result.ok }
+        x.old x.new (is_ok result) }
 {
     let q = fb.row;
     let d = sign_at(col, fa, i);
@@ -245,14 +239,7 @@ pub fn undo_beside(
     let y = x[k + q];
     turn_row(g, n, d, k, x);
     let z = undone_beside(down, even, g, w, n, q, d, k, y, x);
-    if !is_within(z, Block::SAMPLE) {
-        return Outcome {
-            ok: false,
-            stage: 1,
-        };
-    }
-    x[k + q] = z as i32;
-    Outcome { ok: true, stage: 0 }
+    keep(z, Block::SAMPLE, x, k + q)
 }
 
 // The whole sum of the element in column q, v the sums of its row over the columns.
@@ -294,25 +281,19 @@ fn apply_elements(
     v: &[i64; Block::LINE],
     k: usize,
     x: &mut [i32; Block::CELLS],
-) -> Outcome
+) -> Result<(), Beyond>
     requires { RunGiven row.now f d v.now k x.old × (f.row < f.order) × OneRow f }
     ensures { RowDone bound (applied_in (rule_by down even) row.now f d v.now k) (λ u. k + u)
-        f.order x.old x.new result.ok }
+        f.order x.old x.new (is_ok result) }
 {
     let n = f.order;
     let total = column_total(row, f, v);
     for j in 0..n {
         let s = crossing_total(row, f, j, total, v);
         let z = applied_whole(down, even, s, d, sign_at(row, f, j), x[k + j]);
-        if !is_within(z, Block::SAMPLE) {
-            return Outcome {
-                ok: false,
-                stage: 1,
-            };
-        }
-        x[k + j] = z as i32;
+        keep(z, Block::SAMPLE, x, k + j)?;
     }
-    Outcome { ok: true, stage: 0 }
+    Ok(())
 }
 
 // The row with entries, applied: an element looks at the row's sums, made before, and at its own number.
@@ -325,11 +306,11 @@ pub fn apply_crossing(
     fb: Layout,
     i: usize,
     x: &mut [i32; Block::CELLS],
-) -> Outcome
+) -> Result<(), Beyond>
     requires { InSheet col.now fa × InSheet row.now fb × (i < fa.order) × Bounded bound x.old
         × (fb.row < fb.order) × OneRow fb }
     ensures { RowDone bound (plain (applied_of (rule_by down even) col.now fa row.now fb
-        x.old)) (in_row fb.order i) fb.order x.old x.new result.ok }
+        x.old)) (in_row fb.order i) fb.order x.old x.new (is_ok result) }
 {
     let n = fb.order;
     let mut v = [0i64; Block::LINE];
@@ -349,12 +330,12 @@ pub fn undo_crossing(
     fb: Layout,
     i: usize,
     x: &mut [i32; Block::CELLS],
-) -> Outcome
+) -> Result<(), Beyond>
     requires { InSheet col.now fa × InSheet row.now fb × (i < fa.order) × (fb.row < fb.order)
         × Bounded bound x.old × (length x.old ≡ most_cells) }
     ensures { RowDone bound (undone_of (rule_by down even) col.now fa row.now fb)
         (λ u. in_row fb.order i (nth_undone fb.kind fb.order fb.row u)) fb.order
-        x.old x.new result.ok }
+        x.old x.new (is_ok result) }
 {
     let n = fb.order;
     let mut v = [0i64; Block::LINE];
@@ -364,14 +345,8 @@ pub fn undo_crossing(
         let e = i * n + j;
         let d = sign_at(col, fa, i);
         let z = undone_at(down, even, row, fb, j, d, &v, x[e]);
-        if !is_within(z, Block::SAMPLE) {
-            return Outcome {
-                ok: false,
-                stage: 1,
-            };
-        }
-        x[e] = z as i32;
+        keep(z, Block::SAMPLE, x, e)?;
         v[j] = with_sum(v[j], diagonal_of(d), z);
     }
-    Outcome { ok: true, stage: 0 }
+    Ok(())
 }

@@ -1,6 +1,7 @@
--- THE PROMISES OF STRIPS. `line_forward` has the contract `GivesStrip a m bs (ruled k forward_strip (line s) x y b)`, and the
--- other three likewise: k is the number of the rule (request R-5), any number at all; a is the answer, m what the lent output
--- holds then, bs what the lent bytes hold. Each theorem has one k throughout.
+-- THE PROMISES OF STRIPS. `line_forward` has the contract `GivesStrip (answered r) m bs (ruled k forward_strip (line s) x y b)`,
+-- and the other three likewise: k is the number of the rule (request R-5), any number at all; r is what the call gives back, m
+-- what the lent output holds then, bs what the lent bytes hold. In the theorems a is the answer, `answered r`. Each theorem has
+-- one k throughout.
 use Rattle.std.specs.Prelude.{List, ◌≡◌, ℕ, ◌*◌, ◌<◌, ℤ, pos, nat_abs, ◌-ℤ◌, ◌*ℤ◌, length, get_or, ◌≤ℤ◌}
 use Rattle.std.proofs.Math.Path.{refl}
 use Rattle.rules.specs.declared.Answer.{Answer}

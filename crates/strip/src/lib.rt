@@ -3,33 +3,45 @@
 #![tactic(auto)]
 
 ghost use Rattle.rules.specs.Calls.{line, joint, ruled};
+ghost use Rattle.rules.specs.Results.{answered};
 ghost use Rattle.rules.specs.Strips.{GivesStrip, forward_strip, inverse_strip};
 
 use factor::run::Task;
-use rules::Answer;
-use striprun::blocks::Shape;
-use striprun::runs::strip_by;
+use rules::Refusal;
+use striprun::runs::{joint_by, line_by};
 
 // Each block of x through the sheet's factors, into its part of y.
-#[tactic(auto, unfolding(striprun::specs::Plans::TakesBlocks, striprun::specs::Plans::plan_of, factor::specs::Tasks::call_by))]
-pub fn line_forward(rule: u32, s: &[i32], x: &[i32], y: &mut [i32], bytes: &mut [u8]) -> Answer
-    ensures { GivesStrip result y.new bytes.new
+#[tactic(auto, unfolding(striprun::specs::Plans::TakesBlocks, factor::specs::Tasks::call_by))]
+pub fn line_forward(
+    rule: u32,
+    s: &[i32],
+    x: &[i32],
+    y: &mut [i32],
+    bytes: &mut [u8],
+) -> Result<(), Refusal>
+    ensures { GivesStrip (answered result) y.new bytes.new
         (ruled rule forward_strip (line s.now) x.now y.old bytes.old) }
 {
-    strip_by(Shape::Line, Task::Forward, rule, s, s, x, y, bytes)
+    line_by(Task::Forward, rule, s, x, y, bytes)
 }
 
 // Each block of x back through the sheet's factors.
-#[tactic(auto, unfolding(striprun::specs::Plans::TakesBlocks, striprun::specs::Plans::plan_of, factor::specs::Tasks::call_by))]
-pub fn line_inverse(rule: u32, s: &[i32], x: &[i32], y: &mut [i32], bytes: &mut [u8]) -> Answer
-    ensures { GivesStrip result y.new bytes.new
+#[tactic(auto, unfolding(striprun::specs::Plans::TakesBlocks, factor::specs::Tasks::call_by))]
+pub fn line_inverse(
+    rule: u32,
+    s: &[i32],
+    x: &[i32],
+    y: &mut [i32],
+    bytes: &mut [u8],
+) -> Result<(), Refusal>
+    ensures { GivesStrip (answered result) y.new bytes.new
         (ruled rule inverse_strip (line s.now) x.now y.old bytes.old) }
 {
-    strip_by(Shape::Line, Task::Inverse, rule, s, s, x, y, bytes)
+    line_by(Task::Inverse, rule, s, x, y, bytes)
 }
 
 // Each rectangle of x through the pairs of factors.
-#[tactic(auto, unfolding(striprun::specs::Plans::TakesBlocks, striprun::specs::Plans::plan_of, factor::specs::Tasks::call_by))]
+#[tactic(auto, unfolding(striprun::specs::Plans::TakesBlocks, factor::specs::Tasks::call_by))]
 pub fn joint_forward(
     rule: u32,
     col: &[i32],
@@ -37,16 +49,16 @@ pub fn joint_forward(
     x: &[i32],
     y: &mut [i32],
     bytes: &mut [u8],
-) -> Answer
-    ensures { GivesStrip result y.new bytes.new
+) -> Result<(), Refusal>
+    ensures { GivesStrip (answered result) y.new bytes.new
         (ruled rule forward_strip (joint col.now row.now)
         x.now y.old bytes.old) }
 {
-    strip_by(Shape::Joint, Task::Forward, rule, col, row, x, y, bytes)
+    joint_by(Task::Forward, rule, col, row, x, y, bytes)
 }
 
 // Each rectangle of x back through the pairs of factors.
-#[tactic(auto, unfolding(striprun::specs::Plans::TakesBlocks, striprun::specs::Plans::plan_of, factor::specs::Tasks::call_by))]
+#[tactic(auto, unfolding(striprun::specs::Plans::TakesBlocks, factor::specs::Tasks::call_by))]
 pub fn joint_inverse(
     rule: u32,
     col: &[i32],
@@ -54,10 +66,10 @@ pub fn joint_inverse(
     x: &[i32],
     y: &mut [i32],
     bytes: &mut [u8],
-) -> Answer
-    ensures { GivesStrip result y.new bytes.new
+) -> Result<(), Refusal>
+    ensures { GivesStrip (answered result) y.new bytes.new
         (ruled rule inverse_strip (joint col.now row.now)
         x.now y.old bytes.old) }
 {
-    strip_by(Shape::Joint, Task::Inverse, rule, col, row, x, y, bytes)
+    joint_by(Task::Inverse, rule, col, row, x, y, bytes)
 }

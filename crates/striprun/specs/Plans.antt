@@ -1,43 +1,39 @@
 -- THE STRIPS by shape and run: the plan, and the single call.
-use Rattle.std.specs.Prelude.{Bool, true, false, List, ◌≡◌, refl, ℕ, ◌<◌, ℤ, length}
+use Rattle.std.specs.Prelude.{Bool, true, false, Result, Ok, Err, is_ok, List, ◌≡◌, refl, ℕ, ◌<◌, ℤ, length}
 use Rattle.std.proofs.Common.{sym, ◌∙◌, mul-le-mul}
 use Rattle.rules.specs.declared.Answer.{Answer}
 use Rattle.rules.specs.declared.Rule.{Rule}
 use Rattle.rules.specs.Calls.{Reply, Plan, line, joint}
 use Rattle.rules.specs.Strips.{StripReply, strip, outputs, bytes_of}
-use Rattle.laws.specs.Accepted.{accepted-read, pair_read, accepted-order}
+use Rattle.laws.specs.Accepted.{accepted-order}
 use Rattle.laws.specs.AnswersInTurn.{ran_reply}
 use Rattle.laws.specs.Strips.{BlockCall, forward-block, inverse-block}
-use Rattle.sheetread.specs.Starts.{Starts}
 use Rattle.factor.specs.declared.run.Task.{Task}
 use Rattle.factor.specs.declared.run.Task.TheVariants.{Forward, Inverse, Allowance}
 use Rattle.factor.specs.declared.run.Run.{Run}
-use Rattle.factor.specs.Tasks.{inputs_of, number_of, end_answer, ran, call_by, call_of}
+use Rattle.factor.specs.Tasks.{inputs_of, number_of, ran, call_by, call_of}
+use Rattle.factor.specs.declared.run.Place.{Place}
+use Rattle.factor.specs.Outcomes.{ended_answer}
 use Rattle.factor.specs.RunReplies.{GivesAsked}
 use Rattle.factor.specs.CallAnswers.{NoneLent, block-is-run, lengths-right}
-use Rattle.striprun.specs.declared.blocks.Shape.{Shape}
-use Rattle.striprun.specs.declared.blocks.Shape.TheVariants.{Line, Joint}
+use Rattle.striprun.specs.declared.blocks.Sheets.{Sheets}
+use Rattle.striprun.specs.declared.blocks.Sheets.TheVariants.{Line, Joint}
 
--- a line's plan is that of the column sheet alone
-unfoldable pub plan_of : Shape → List ℤ → List ℤ → Plan
-plan_of Line c r = line c
-plan_of Joint c r = joint c r
+-- the plan of checked sheets
+unfoldable pub plan_of : Sheets → Plan
+plan_of (Line s) = line s.numbers.now
+plan_of (Joint c r) = joint c.numbers.now r.numbers.now
 
--- tables that have where the factors of the sheets start. A line has no second sheet.
-unfoldable pub StartsOf : Shape → List ℤ → List ℤ → List ℕ → List ℕ → Type 0
-StartsOf Line c r t u = Starts c t
-StartsOf Joint c r t u = Starts c t × Starts r u
-
-module _ (shape : Shape) (r : Run) (c w : List ℤ) where
-  -- what k blocks give, and the strip of that shape and run
+module _ (sheets : Sheets) (r : Run) where
+  -- what k blocks give, and the strip of those sheets and that run
   abbrev pub outputs_by : ℕ → List ℤ → List ℤ → List ℤ
-  outputs_by k x y = outputs (plan_of shape c w) (call_of r (plan_of shape c w)) k x y
+  outputs_by k x y = outputs (plan_of sheets) (call_of r (plan_of sheets)) k x y
 
   abbrev pub bytes_by : ℕ → List ℤ → List ℤ → List ℕ
-  bytes_by k x y = bytes_of (plan_of shape c w) (call_of r (plan_of shape c w)) k x y
+  bytes_by k x y = bytes_of (plan_of sheets) (call_of r (plan_of sheets)) k x y
 
   abbrev pub strip_by : List ℤ → List ℤ → List ℕ → StripReply
-  strip_by x y b = strip (plan_of shape c w) (call_of r (plan_of shape c w)) x y b
+  strip_by x y b = strip (plan_of sheets) (call_of r (plan_of sheets)) x y b
 
 -- the strip of a task, of any rule and plan
 abbrev pub strip_of : Task → Rule → Plan → List ℤ → List ℤ → List ℕ → StripReply
@@ -80,10 +76,10 @@ block_runs r h p x y s l m =
     (lengths-right r.task p.size (length x) (length y) (l ∙ sym (lent-block r.task h p.size)) m)
 
 -- a block of checked sheets has some numbers
-pub some-numbers : (shape : Shape) (c r : List ℤ) → (plan_of shape c r).sheets.number ≡ 0 → 0 < (plan_of shape c r).size
+pub some-numbers : (sheets : Sheets) → (plan_of sheets).sheets.number ≡ 0 → 0 < (plan_of sheets).size
 unfolding plan_of line joint
-some-numbers Line c r h = (accepted-order (accepted-read c h)).least
-some-numbers Joint c r h = let a = pair_read c r h in mul-le-mul (accepted-order a.0).least (accepted-order a.1).least
+some-numbers (Line s) h = (accepted-order s.faultless).least
+some-numbers (Joint c r) h = mul-le-mul (accepted-order c.faultless).least (accepted-order r.faultless).least
 
 -- the byte of a block that is accepted, or not: "in its byte, the number, 0 or 11"
 unfoldable pub byte_of : Bool → ℕ
@@ -96,14 +92,14 @@ pub record GivesByte (b : ℕ) (m : List ℤ) (q : Reply ℤ) : Type 0 where
   pub memory : m ≡ q.memory
 
 -- the run of a block ends with it
-pub byte-is : (task : Task) → TakesBlocks task → (ok : Bool) (pair : List ℕ) →
-    byte_of ok ≡ (end_answer (number_of task) ok pair).number
-unfolding TakesBlocks byte_of end_answer number_of
-byte-is Forward h true pair = refl
-byte-is Forward h false pair = refl
-byte-is Inverse h true pair = refl
-byte-is Inverse h false pair = refl
-byte-is Allowance h ok pair = absurd h
+pub byte-is : {T : Type 0} (task : Task) → TakesBlocks task → (end : Result T Place) →
+    byte_of (is_ok end) ≡ (ended_answer (number_of task) end).number
+unfolding TakesBlocks byte_of number_of
+byte-is Forward h (Ok x) = refl
+byte-is Forward h (Err p) = refl
+byte-is Inverse h (Ok x) = refl
+byte-is Inverse h (Err p) = refl
+byte-is Allowance h end = absurd h
 
 pub gives-byte :
     {named : Bool} {a : Answer} {m : List ℤ} {q : Reply ℤ} {b : ℕ} → GivesAsked named a m q → b ≡ a.number → GivesByte b m q

@@ -1,93 +1,103 @@
 // A strip: its sheets and lengths are checked once, then its blocks are run one after another.
 ghost use Rattle.std.specs.Prelude.{◌≡◌, ◌*◌, ◌<◌, length};
-ghost use Rattle.rules.specs.Calls.{ruled};
+ghost use Rattle.rules.specs.Calls.{line, joint, ruled};
 ghost use Rattle.rules.specs.Strips.{GivesStrip};
-ghost use Rattle.striprun.specs.Plans.{plan_of, StartsOf, outputs_by, bytes_by, strip_by, strip_of, TakesBlocks};
+ghost use Rattle.rules.specs.Results.{answered};
+ghost use Rattle.striprun.specs.Plans.{plan_of, outputs_by, bytes_by, strip_by, strip_of, TakesBlocks};
 ghost use Rattle.striprun.specs.Lengths.{strip_lengths};
 
-use crate::blocks::{Shape, check_sheets, run_block, size_of};
+use crate::blocks::Sheets;
 use factor::lengths::check_length;
-use factor::run::{Run, Task, check_rule, run_by};
-use rules::{Answer, Sheet};
+use factor::run::{Run, Task};
+use rules::{Fault, Refusal, Rule, Sheet, Side};
+use sheetcheck::checks::{check_pair_starts, check_starts};
+use sheetread::checked::Checked;
 
 // 10: the input is no whole number of blocks of n; then the output, then the bytes.
 #[tactic(auto, unfolding(crate::specs::Lengths::strip_lengths))]
-fn check_strip(n: usize, x: usize, y: usize, bytes: usize) -> Answer
+fn check_strip(n: usize, x: usize, y: usize, bytes: usize) -> Result<(), Refusal>
     requires { 0 < n }
-    ensures { result ≡ strip_lengths n x y bytes }
+    ensures { answered result ≡ strip_lengths n x y bytes }
 {
     if x % n != 0 {
-        return Answer::refused(10, 0, 0);
+        return Err(Refusal::new(Fault::Length, Side::First, 0));
     }
     if y != x {
-        return Answer::refused(10, 1, 0);
+        return Err(Refusal::new(Fault::Length, Side::Second, 0));
     }
     check_length(x / n, bytes)
 }
 
 // Every block of n numbers: its part of y is lent on to the single run, and its byte takes the number.
+// By places: after a loop over `chunks_exact_mut` a proof knows the length of y, and not its numbers.
 fn run_blocks(
-    shape: Shape,
+    sheets: &Sheets<'_, '_>,
     run: Run,
-    col: &[i32],
-    row: &[i32],
-    columns: &[u16; Sheet::FACTORS],
-    rows: &[u16; Sheet::FACTORS],
     n: usize,
     x: &[i32],
     y: &mut [i32],
     bytes: &mut [u8],
 )
     requires { TakesBlocks run.task
-        × ((plan_of shape col.now row.now).sheets.number ≡ 0)
-        × (n ≡ (plan_of shape col.now row.now).size)
+        × ((plan_of sheets.now).sheets.number ≡ 0)
+        × (n ≡ (plan_of sheets.now).size)
         × (length x.now ≡ length bytes.old * n)
-        × (length y.old ≡ length bytes.old * n)
-        × StartsOf shape col.now row.now columns.now rows.now }
-    ensures { (y.new ≡ outputs_by shape run col.now row.now (length bytes.old)
-        x.now y.old)
-        × (bytes.new ≡ bytes_by shape run col.now row.now (length bytes.old)
-        x.now y.old) }
+        × (length y.old ≡ length bytes.old * n) }
+    ensures { (y.new ≡ outputs_by sheets.now run (length bytes.old) x.now y.old)
+        × (bytes.new ≡ bytes_by sheets.now run (length bytes.old) x.now y.old) }
 {
     for k in 0..bytes.len() {
         let o = k * n;
         let e = o + n;
-        bytes[k] = run_block(shape, run, col, row, columns, rows, &x[o..e], &mut y[o..e]);
+        bytes[k] = sheets.run_block(run, &x[o..e], &mut y[o..e]);
     }
 }
 
-// "1 to 9 and 12 as before, then 10"; else all blocks.
+// 10 of sheets that have no fault; else all blocks.
 fn run_strip(
-    shape: Shape,
+    sheets: &Sheets<'_, '_>,
     run: Run,
-    col: &[i32],
-    row: &[i32],
     x: &[i32],
     y: &mut [i32],
     bytes: &mut [u8],
-) -> Answer
-    requires { TakesBlocks run.task }
-    ensures { GivesStrip result y.new bytes.new
-        (strip_by shape run col.now row.now x.now y.old bytes.old) }
+) -> Result<(), Refusal>
+    requires { TakesBlocks run.task × ((plan_of sheets.now).sheets.number ≡ 0) }
+    ensures { GivesStrip (answered result) y.new bytes.new
+        (strip_by sheets.now run x.now y.old bytes.old) }
 {
-    let mut columns = [0u16; Sheet::FACTORS];
-    let mut rows = [0u16; Sheet::FACTORS];
-    let a = check_sheets(shape, col, row, &mut columns, &mut rows);
-    if a.number != 0 {
-        return a;
-    }
-    let n = size_of(shape, col, row);
-    let l = check_strip(n, x.len(), y.len(), bytes.len());
-    if l.number != 0 {
-        return l;
-    }
-    run_blocks(shape, run, col, row, &columns, &rows, n, x, y, bytes);
-    l
+    let n = sheets.size();
+    check_strip(n, x.len(), y.len(), bytes.len())?;
+    run_blocks(sheets, run, n, x, y, bytes);
+    Ok(())
 }
 
-// 16 for a number that is no rule's, then the strip by that rule.
-pub fn strip_by(
-    shape: Shape,
+// A strip of lines: 16 for a number that is no rule's, then "1 to 9", then the strip by that rule.
+#[tactic(auto, unfolding(crate::specs::Plans::plan_of))]
+pub fn line_by(
+    task: Task,
+    rule: u32,
+    s: &[i32],
+    x: &[i32],
+    y: &mut [i32],
+    bytes: &mut [u8],
+) -> Result<(), Refusal>
+    requires { TakesBlocks task }
+    ensures { GivesStrip (answered result) y.new bytes.new
+        (ruled rule (strip_of task) (line s.now) x.now y.old bytes.old) }
+{
+    let rule = Rule::try_from(rule)?;
+    let mut starts = [0u16; Sheet::FACTORS];
+    check_starts(s, &mut starts)?;
+    let sheets = Sheets::Line(Checked {
+        numbers: s,
+        starts: &starts,
+    });
+    run_strip(&sheets, Run { task, rule }, x, y, bytes)
+}
+
+// The same of rectangles: "12" comes after the faults of both sheets.
+#[tactic(auto, unfolding(crate::specs::Plans::plan_of))]
+pub fn joint_by(
     task: Task,
     rule: u32,
     col: &[i32],
@@ -95,15 +105,24 @@ pub fn strip_by(
     x: &[i32],
     y: &mut [i32],
     bytes: &mut [u8],
-) -> Answer
+) -> Result<(), Refusal>
     requires { TakesBlocks task }
-    ensures { GivesStrip result y.new bytes.new
-        (ruled rule (strip_of task) (plan_of shape col.now row.now)
-        x.now y.old bytes.old) }
+    ensures { GivesStrip (answered result) y.new bytes.new
+        (ruled rule (strip_of task) (joint col.now row.now) x.now y.old bytes.old) }
 {
-    let a = check_rule(rule);
-    if a.number != 0 {
-        return a;
-    }
-    run_strip(shape, run_by(task, rule), col, row, x, y, bytes)
+    let rule = Rule::try_from(rule)?;
+    let mut columns = [0u16; Sheet::FACTORS];
+    let mut rows = [0u16; Sheet::FACTORS];
+    check_pair_starts(col, row, &mut columns, &mut rows)?;
+    let sheets = Sheets::Joint(
+        Checked {
+            numbers: col,
+            starts: &columns,
+        },
+        Checked {
+            numbers: row,
+            starts: &rows,
+        },
+    );
+    run_strip(&sheets, Run { task, rule }, x, y, bytes)
 }

@@ -1,8 +1,9 @@
 // Each call on the parts of a case: A, B and X are lent to be read, Y to be written. Runs and allowances take the case's rule.
 ghost use Rattle.std.specs.Prelude.{◌≡◌, length};
 
-use rules::Answer;
-use trialparts::parts::{ROOM, at, bits_of, is_front, load, load_bytes, natural, store_bytes};
+use rules::{Answer, Refusal};
+use trialparts::call::Call;
+use trialparts::parts::{ROOM, at, bits_of, load_bytes, natural, store_bytes};
 
 // The reader, on bytes that stand one to a word.
 fn read(a: &[i32], y: &mut [i32]) -> Answer {
@@ -11,7 +12,7 @@ fn read(a: &[i32], y: &mut [i32]) -> Answer {
         return unknown();
     }
     let bytes = load_bytes(a);
-    recipe::read(&bytes[..n], y)
+    Answer::from(recipe::read(&bytes[..n], y))
 }
 
 // The writer, into room whose bytes stand one to a word.
@@ -23,7 +24,7 @@ fn write(a: &[i32], y: &mut [i32]) -> Answer {
     let mut room = load_bytes(y);
     let r = recipe::write(a, &mut room[..n]);
     store_bytes(&room, y, 0);
-    r
+    Answer::from(r)
 }
 
 // The program's text, on bytes that stand one to a word; its answer is the text's length.
@@ -36,82 +37,28 @@ fn program(a: &[i32], y: &mut [i32]) -> Answer {
     let mut text = blank_text();
     let m = session::text_of(&bytes[..n], &mut text);
     store_bytes(&text, y, 0);
-    Answer::counted(m as u64)
+    Answer::from(Ok::<usize, Refusal>(m))
 }
 
-// The strips by their numbers.
-fn strip_by(
-    call: usize,
-    rule: u32,
-    a: &[i32],
-    b: &[i32],
-    x: &[i32],
-    y: &mut [i32],
-    bytes: &mut [u8],
-) -> Answer {
-    if call == 17 {
-        return strip::line_forward(rule, a, x, y, bytes);
-    }
-    if call == 18 {
-        return strip::line_inverse(rule, a, x, y, bytes);
-    }
-    if call == 19 {
-        return strip::joint_forward(rule, a, b, x, y, bytes);
-    }
-    if call == 20 {
-        return strip::joint_inverse(rule, a, b, x, y, bytes);
-    }
-    unknown()
-}
-
-// A strip: X is the count of bytes and then the input, Y the output and then the bytes, one to a word.
-fn strip(call: usize, rule: u32, a: &[i32], b: &[i32], x: &[i32], y: &mut [i32]) -> Answer {
-    if x.len() == 0 {
+// A strip: X is the count of bytes and then the input, Y the output and then the bytes, one to a word. `call` has the rule and
+// the sheets.
+fn strip<F>(x: &[i32], y: &mut [i32], call: F) -> Answer
+where
+    F: FnOnce(&[i32], &mut [i32], &mut [u8]) -> Result<(), Refusal>,
+    requires { F.IsAlwaysCallable call }
+{
+    let Some((count, x)) = x.split_first() else {
         return unknown();
-    }
-    let many = natural(x[0]);
-    if many > ROOM {
-        return unknown();
-    }
-    if many > y.len() {
+    };
+    let many = natural(*count);
+    if many > ROOM || many > y.len() {
         return unknown();
     }
     let n = y.len() - many;
     let mut bytes = load_bytes(&y[n..]);
-    let r = strip_by(call, rule, a, b, &x[1..], &mut y[..n], &mut bytes[..many]);
+    let r = call(x, &mut y[..n], &mut bytes[..many]);
     store_bytes(&bytes, y, n);
-    r
-}
-
-// A pass alone: A is its sheet, and the other order is the number of B's word.
-fn one_pass(call: usize, rule: u32, a: &[i32], other: u32, x: &[i32], y: &mut [i32]) -> Answer {
-    if call == 24 {
-        return twopass::column_forward(rule, a, other, x, y);
-    }
-    if call == 25 {
-        return twopass::column_inverse(rule, a, other, x, y);
-    }
-    if call == 26 {
-        return twopass::row_forward(rule, a, other, x, y);
-    }
-    if call == 27 {
-        return twopass::row_inverse(rule, a, other, x, y);
-    }
-    unknown()
-}
-
-// Two passes, and a pass alone, by their numbers.
-fn two_pass(call: usize, rule: u32, a: &[i32], b: &[i32], x: &[i32], y: &mut [i32]) -> Answer {
-    if call == 21 || call == 28 {
-        return twopass::forward(rule, a, b, x, y);
-    }
-    if call == 22 {
-        return twopass::inverse(rule, a, b, x, y);
-    }
-    if call == 23 {
-        return twopass::allowance(rule, a, b, y);
-    }
-    one_pass(call, rule, a, bits_of(at(b, 0)), x, y)
+    Answer::from(r)
 }
 
 // Room for a text.
@@ -123,84 +70,84 @@ fn blank_text() -> [u8; ROOM]
 
 // An answer that no case expects.
 fn unknown() -> Answer {
-    Answer::refused(99, 99, 99)
+    Answer {
+        number: 99,
+        side: 99,
+        place: 99,
+        element: 0,
+    }
 }
 
-// The calls by their numbers in the stream, of those whose answer is an Answer.
-pub fn answer(call: usize, rule: u32, a: &[i32], b: &[i32], x: &[i32], y: &mut [i32]) -> Answer {
-    if call == 1 {
-        return sheet::check(a);
+// The calls, of those whose answer is an Answer. For a pass alone A is its sheet, and the other order is the number of B's word.
+pub fn answer(
+    call: Option<Call>,
+    rule: u32,
+    a: &[i32],
+    b: &[i32],
+    x: &[i32],
+    y: &mut [i32],
+) -> Answer {
+    let Some(call) = call else {
+        return unknown();
+    };
+    let other = bits_of(at(b, 0));
+    match call {
+        Call::Check => Answer::from(sheet::check(a)),
+        Call::Pair => Answer::from(sheet::check_pair(a, b)),
+        Call::Rest => unknown(),
+        Call::Read => read(a, y),
+        Call::Write => write(a, y),
+        Call::BuiltIn => Answer::from(recipe::built_in(y)),
+        Call::LineForward | Call::LineLaw => Answer::from(line::forward(rule, a, x, y)),
+        Call::LineInverse => Answer::from(line::inverse(rule, a, x, y)),
+        Call::LineAllowance => Answer::from(line::allowance(rule, a, y)),
+        Call::JointForward | Call::JointLaw => Answer::from(rectangle::forward(rule, a, b, x, y)),
+        Call::JointInverse => Answer::from(rectangle::inverse(rule, a, b, x, y)),
+        Call::JointAllowance => Answer::from(rectangle::allowance(rule, a, b, y)),
+        Call::Program => program(a, y),
+        Call::FirstPrinting => Answer::from(recipe::first_printing(y)),
+        Call::LineStripForward => strip(
+            x,
+            y,
+            |x, y, bytes| strip::line_forward(rule, a, x, y, bytes),
+        ),
+        Call::LineStripInverse => strip(
+            x,
+            y,
+            |x, y, bytes| strip::line_inverse(rule, a, x, y, bytes),
+        ),
+        Call::JointStripForward => strip(
+            x,
+            y,
+            |x, y, bytes| strip::joint_forward(rule, a, b, x, y, bytes),
+        ),
+        Call::JointStripInverse => strip(
+            x,
+            y,
+            |x, y, bytes| strip::joint_inverse(rule, a, b, x, y, bytes),
+        ),
+        Call::TwoPassForward | Call::TwoPassLaw => Answer::from(twopass::forward(rule, a, b, x, y)),
+        Call::TwoPassInverse => Answer::from(twopass::inverse(rule, a, b, x, y)),
+        Call::TwoPassAllowance => Answer::from(twopass::allowance(rule, a, b, y)),
+        Call::ColumnForward => Answer::from(twopass::column_forward(rule, a, other, x, y)),
+        Call::ColumnInverse => Answer::from(twopass::column_inverse(rule, a, other, x, y)),
+        Call::RowForward => Answer::from(twopass::row_forward(rule, a, other, x, y)),
+        Call::RowInverse => Answer::from(twopass::row_inverse(rule, a, other, x, y)),
     }
-    if call == 2 {
-        return sheet::check_pair(a, b);
-    }
-    if call == 4 {
-        return read(a, y);
-    }
-    if call == 5 {
-        return write(a, y);
-    }
-    if call == 6 {
-        return recipe::built_in(y);
-    }
-    if call == 7 {
-        return line::forward(rule, a, x, y);
-    }
-    if call == 8 {
-        return line::inverse(rule, a, x, y);
-    }
-    if call == 9 {
-        return line::allowance(rule, a, y);
-    }
-    if call == 10 {
-        return rectangle::forward(rule, a, b, x, y);
-    }
-    if call == 11 {
-        return rectangle::inverse(rule, a, b, x, y);
-    }
-    if call == 12 {
-        return rectangle::allowance(rule, a, b, y);
-    }
-    if call == 13 {
-        return program(a, y);
-    }
-    if call == 14 {
-        return line::forward(rule, a, x, y);
-    }
-    if call == 15 {
-        return rectangle::forward(rule, a, b, x, y);
-    }
-    if call == 16 {
-        return recipe::first_printing(y);
-    }
-    if call > 20 {
-        return two_pass(call, rule, a, b, x, y);
-    }
-    if call > 16 {
-        return strip(call, rule, a, b, x, y);
-    }
-    unknown()
 }
 
 // Whether a part is the end of w from a place on. A run sees a part's length and its words: two ends that are alike in both,
 // such as the empty ends of the two sheets, it can't tell apart. The contract of `rest` says which slice the part is of.
 fn is_end(part: &[i32], w: &[i32], start: i32) -> bool {
-    if start < 0 {
+    let Ok(from) = usize::try_from(start) else {
         return false;
-    }
-    let from = natural(start);
-    if from > w.len() {
-        return false;
-    }
-    part.len() == w.len() - from && is_front(&load(part), &w[from..])
+    };
+    w.get(from..)
+        .is_some_and(|end| end.len() <= ROOM && part == end)
 }
 
 // `rest`, whose answer is a part of a slice: which slice, 0 for the column sheet or 1 for the row sheet, and where the part
 // starts.
-pub fn is_rest<'a>(a: &'a [i32], b: &'a [i32], which: i32, start: i32) -> bool {
-    let part = sheet::rest(a, b);
-    if which == 0 {
-        return is_end(part, a, start);
-    }
-    is_end(part, b, start)
+pub fn is_rest(a: &[i32], b: &[i32], which: i32, start: i32) -> bool {
+    is_end(sheet::rest(a, b), if which == 0 { a } else { b }, start)
 }

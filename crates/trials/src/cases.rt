@@ -1,9 +1,10 @@
 // One case after another, to the stream's end.
-ghost use Rattle.std.specs.Prelude.{◌<◌, ◌≤◌};
+ghost use Rattle.std.specs.Prelude.{◌≤◌};
 
 use crate::calls::{answer, is_rest};
+use trialparts::call::Call;
 use trialparts::parts::{ROOM, at, bits_of, is_answer, is_between, is_front, load, natural, part};
-use trialparts::tally::note;
+use trialparts::tally::{Counts, note};
 use trialparts::words::{MOST, blank_words, read_words};
 
 // More cases than any stream has.
@@ -23,14 +24,20 @@ struct Layout {
     pub end: usize,
 }
 
-// What a case showed. Call 0: there is no case, and `agrees` says that the stream ends where a case may.
+// What a case showed. Its number may be no call's.
 #[derive(Clone, Copy)]
 struct Verdict {
-    pub call: usize,
+    pub call: Option<Call>,
     pub agrees: bool,
 }
 
-// How the stream ended.
+// There is no further case. Whole: the stream ends where a case may.
+#[derive(Clone, Copy)]
+struct Ended {
+    pub whole: bool,
+}
+
+// How many cases the stream had, and how it ended.
 #[derive(Clone, Copy)]
 pub struct End {
     pub cases: u64,
@@ -38,23 +45,18 @@ pub struct End {
 }
 
 // A length, kept small enough that sums of lengths fit.
-fn length_at(head: &[i32; 6], k: usize) -> usize
-    requires { k < 6 }
+fn length_of(z: i32) -> usize
     ensures { result ≤ 32768 }
 {
-    let n = natural(head[k]);
-    if n > MOST {
-        return MOST;
-    }
-    n
+    natural(z).min(MOST)
 }
 
-// A head is the call, the rule, and the lengths of A, B, X and Y.
-fn lay_out(head: &[i32; 6]) -> Layout {
-    let a = length_at(head, 2);
-    let b = a + length_at(head, 3);
-    let x = b + length_at(head, 4);
-    let room = length_at(head, 5);
+// Where the parts stand, by the lengths of A, B, X and Y.
+fn lay_out(a: i32, b: i32, x: i32, y: i32) -> Layout {
+    let a = length_of(a);
+    let b = a + length_of(b);
+    let x = b + length_of(x);
+    let room = length_of(y);
     let y = x + room;
     Layout {
         a,
@@ -69,9 +71,9 @@ fn lay_out(head: &[i32; 6]) -> Layout {
     }
 }
 
-// Runs a case: whether its answer and the lent memory are the expected ones. Calls 14, 15 and 28 try a law: their coefficients
-// have to lie between two blocks, the least in Y before the call and the largest in Y after it.
-fn judge(call: usize, rule: u32, c: Layout, w: &[i32]) -> bool {
+// Runs a case: whether its answer and the lent memory are the expected ones. Where a law is tried, the coefficients have to lie
+// between two blocks, the least in Y before the call and the largest in Y after it.
+fn judge(call: Option<Call>, rule: u32, c: Layout, w: &[i32]) -> bool {
     let a = part(w, 0, c.a);
     let b = part(w, c.a, c.b);
     let x = part(w, c.b, c.x);
@@ -80,7 +82,7 @@ fn judge(call: usize, rule: u32, c: Layout, w: &[i32]) -> bool {
     let side = at(w, c.side);
     let place = at(w, c.place);
     let element = at(w, c.element);
-    if call == 3 {
+    if let Some(Call::Rest) = call {
         return is_rest(a, b, number, place);
     }
     let n = y.len();
@@ -93,58 +95,52 @@ fn judge(call: usize, rule: u32, c: Layout, w: &[i32]) -> bool {
         return false;
     }
     let after = part(w, c.after, c.end);
-    if call == 14 || call == 15 || call == 28 {
-        return is_between(&room, y, after);
+    match call {
+        Some(Call::LineLaw | Call::JointLaw | Call::TwoPassLaw) => is_between(&room, y, after),
+        _ => is_front(&room, after),
     }
-    is_front(&room, after)
 }
 
-// The rest of a case whose head was read.
-fn read_case(call: usize, rule: u32, c: Layout) -> Verdict {
-    let end = c.end;
-    if end > MOST {
-        return Verdict {
-            call: 0,
-            agrees: false,
-        };
+// The rest of a case whose head was read. Number 0 is the stream's end, too: the stream is whole if that case agrees.
+fn read_case(number: usize, rule: u32, c: Layout) -> Result<Verdict, Ended> {
+    if c.end > MOST {
+        return Err(Ended { whole: false });
     }
     let mut w = blank_words();
-    let got = read_words(&mut w[..end]);
-    if got != end * 4 {
-        return Verdict {
-            call: 0,
-            agrees: false,
-        };
+    if read_words(&mut w[..c.end]) != c.end * 4 {
+        return Err(Ended { whole: false });
     }
-    Verdict {
-        call,
-        agrees: judge(call, rule, c, &w),
+    let call = Call::of(number);
+    let agrees = judge(call, rule, c, &w);
+    if number == 0 {
+        return Err(Ended { whole: agrees });
     }
+    Ok(Verdict { call, agrees })
 }
 
-fn next_case() -> Verdict {
+// A head is the call, the rule, and the lengths of A, B, X and Y.
+fn next_case() -> Result<Verdict, Ended> {
     let mut head = [0i32; 6];
     let got = read_words(&mut head);
     if got != 24 {
-        return Verdict {
-            call: 0,
-            agrees: got == 0,
-        };
+        return Err(Ended { whole: got == 0 });
     }
-    read_case(natural(head[0]), bits_of(head[1]), lay_out(&head))
+    let [number, rule, a, b, x, y] = head;
+    read_case(natural(number), bits_of(rule), lay_out(a, b, x, y))
 }
 
 // Runs case after case, and counts.
-pub fn run_all(counts: &mut [u64; 87]) -> End {
+pub fn run_all(counts: &mut Counts) -> End {
     for case in 0..MANY {
-        let v = next_case();
-        if v.call == 0 {
-            return End {
-                cases: case,
-                whole: v.agrees,
-            };
+        match next_case() {
+            Ok(v) => note(counts, v.call, case, v.agrees),
+            Err(ended) => {
+                return End {
+                    cases: case,
+                    whole: ended.whole,
+                };
+            }
         }
-        note(counts, v.call, case, v.agrees);
     }
     End {
         cases: MANY,

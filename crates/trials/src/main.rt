@@ -6,10 +6,10 @@
 mod calls; // each call, on the parts of a case
 mod cases; // one case after another
 
-use trialparts::tally::{print_all, print_end};
+use trialparts::tally::{NONE, print_all, print_end};
 
 fn main() {
-    let mut counts = [0u64; 87];
+    let mut counts = NONE;
     let end = cases::run_all(&mut counts);
     print_all(&counts);
     print_end(end.cases, end.whole);

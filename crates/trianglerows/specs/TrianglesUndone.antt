@@ -238,14 +238,14 @@ module _ {rule : Rule} {c r x₀ v₀ x v : List ℤ} {fa fb : Layout} {i a t : 
         (recovered-sums-undo c fa i fb g.low g.row.order g.column g.below t l h.recovered.sums g.row rule))
         ∙ sym (undone-here rule c fa r fb x i j k)
 
-    pub undoing-stops : (b : ℕ) {w : List ℤ} → t < b →
+    pub undoing-stops : (b : ℕ) {y w : List ℤ} → t < b → length y ≡ length x₀ →
         leb (nat_abs (undone_of rule c fa r fb x (i * fb.order + j))) bound ≡ false →
-        RunUndone rule c fa r fb i a b x₀ x w false
-    undoing-stops b m far = (
+        RunUndone rule c fa r fb i a b x₀ y w false
+    undoing-stops b m kept far = (
       record {
         through = λ e. apart (sym e);
         stopped = λ e. run-stops _ (undone_turn fb i) a b t x₀ h.from m h.block (rw q far);
-        keeps = keeps;
+        keeps = kept;
       },
       λ e. apart (sym e),
     )

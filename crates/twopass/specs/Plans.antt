@@ -1,11 +1,12 @@
 -- THE PLANS BY THE WAY OF THE FIRST PASS, as the code has them: down the columns, or along the rows. Definitions for the code,
 -- and what a run of a block has of them.
-use Rattle.std.specs.Prelude.{Bool, List, ◌≡◌, ℕ, ◌≤◌, ℤ}
+use Rattle.std.specs.Prelude.{Bool, List, ◌≡◌, ℕ, ◌*◌, ◌≤◌, ℤ}
 use Rattle.std.proofs.Math.Bool.{true, false}
 use Rattle.std.proofs.Math.Path.{refl}
 use Rattle.std.proofs.Common.{mul_comm}
-use Rattle.rules.specs.Numbers.{most_order}
-use Rattle.rules.specs.Calls.{Plan, two_pass, column_pass, row_pass}
+use Rattle.rules.specs.Numbers.{most_order, count}
+use Rattle.rules.specs.Answers.{◌or_else◌, checked}
+use Rattle.rules.specs.Calls.{Plan, two_pass, column_pass, row_pass, order_checked}
 use Rattle.laws.specs.Accepted.{Accepted, two-read}
 use Rattle.laws.specs.Passes.{alone-read}
 use Rattle.factor.specs.declared.run.Task.{Task}
@@ -39,6 +40,12 @@ module _ (a z : List ℤ) where
   two-sheets true h = two-read a z h
   two-sheets false h = let r = two-read z a h in (r.1, r.0)
 
+  -- the orders multiplied either way round
+  pub two-orders : (columns : Bool) → count a 0 * count z 0 ≡ (two_by columns a z).size
+  unfolding two_by two_pass
+  two-orders true = refl
+  two-orders false = mul_comm (count a 0) (count z 0)
+
 module _ (s : List ℤ) (n : ℕ) where
   pub one_size_lem : (columns : Bool) → (one_by columns s n).size ≡ one_size columns n s
   unfolding one_by column_pass row_pass size_by
@@ -61,3 +68,14 @@ module _ (s : List ℤ) (n : ℕ) where
   unfolding one_by column_pass row_pass checks_of
   one-checks true k task x y = refl
   one-checks false k task x y = rw (mul_comm n _)
+
+  -- the sheet, then the number of lines, whichever way they go
+  pub one-checked : (columns : Bool) → checked s or_else order_checked n ≡ (one_by columns s n).sheets
+  unfolding one_by column_pass row_pass
+  one-checked true = refl
+  one-checked false = refl
+
+  pub one-orders : (columns : Bool) → count s 0 * n ≡ (one_by columns s n).size
+  unfolding one_by column_pass row_pass
+  one-orders true = refl
+  one-orders false = mul_comm (count s 0) n

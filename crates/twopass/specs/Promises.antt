@@ -1,8 +1,8 @@
 -- THE PROMISES OF THE CALLS OF TWO PASSES, AND OF A PASS ALONE (request R-4). `forward`, `inverse` and `allowance` have the
 -- contracts `Gives a m (ruled k forward_call (two_pass c r) x y)`, and so on; `column_forward` and `column_inverse` have them with
 -- `column_pass s n`, `row_forward` and `row_inverse` with `row_pass s n`: n is the other order, any number at all. k is the number
--- of the rule (request R-5), any number at all; a is the answer, m what the lent output holds then. Each theorem is about what
--- these calls returned, and has one k throughout.
+-- of the rule (request R-5), any number at all; a is the answer, `answered` of what the call gives back, m what the lent output
+-- holds then. Each theorem is about what these calls returned, and has one k throughout.
 use Rattle.std.specs.Prelude.{List, ◌↔◌, ◌≡◌, ℕ, ◌+◌, ◌*◌, ◌^◌, ◌<◌, ℤ, pos, nat_abs, ◌-ℤ◌, ◌*ℤ◌, length, ◌≤ℤ◌}
 use Rattle.rules.specs.declared.Answer.{Answer}
 use Rattle.rules.specs.Numbers.{unit, at, count}

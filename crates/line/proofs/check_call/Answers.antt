@@ -1,52 +1,52 @@
--- The checks in turn (`rule-stops`, `sheets-stop`, `lengths-left`).
+-- The checks in turn (`rule-err`, `sheets-err`, `lengths-told`).
 use Rattle.std.proofs.Common.{◌≡◌, sym, ap, ◌∙◌}
-use Rattle.factor.specs.CallAnswers.{lengths_of, rule-stops, sheets-stop, lengths-left}
-use Rattle.laws.specs.Accepted.{Accepted, accepted-read, order-counts}
+use Rattle.std.proofs.lemmas.Result.{err_from_is_err_and}
+use Rattle.factor.specs.CallAnswers.{checks_of, rule-err, sheets-err, lengths-told}
+use Rattle.laws.specs.Accepted.{order-counts}
 use Rattle.rules.specs.Calls.{line}
+use Rattle.rules.specs.Results.{answered}
 use Rattle.rules.specs.declared.Answer.{Answer}
 use Rattle.line.proofs.check_call.Goals as goal
-use Rattle.line.proofs.check_call.Goals.{After-check_lengths, After-check_starts-c, Else-c-ne0}
+use Rattle.line.proofs.check_call.Goals.{After-check_lengths}
 
-pub returns-then-a-ne0 : goal.returns-then-a-ne0
-returns-then-a-ne0 c =
-    let a = c.args in (
-      rule-stops a.rule a.task (line a.s.now) _ _ c.check_rule-a.ensures c.if-a-ne0.true,
-      λ e. absurd (c.if-a-ne0.true e),
-    )
+pub returns-in_err-rule : goal.returns-in_err-rule
+returns-in_err-rule c =
+    let a = c.args in
+    let p = err_from_is_err_and c.from_residual.result c.from_residual.ensures.1 in
+    rw (p.1, p.2) (rule-err a.rule a.task (line a.s.now) a.x a.y _ c.in_err-rule.ensures, tt)
 
--- what the sheet told
-sheets : (c : After-check_starts-c) →
-    c.check_starts-c.result ≡ (line c.args.s.now).sheets
+pub returns-in_err-check_starts : goal.returns-in_err-check_starts
 unfolding line
-sheets c = c.check_starts-c.ensures.0
-
-pub returns-then-c-ne0 : goal.returns-then-c-ne0
-returns-then-c-ne0 c =
-    let here = goal.at.returns-then-c-ne0 c in
-    let a = c.args in (
-      sheets-stop a.rule a.task (line a.s.now) _ _ c.check_rule-a.ensures c.if-a-ne0.false (sheets here.After-check_starts-c)
-          c.if-c-ne0.true,
-      λ z. absurd (c.if-c-ne0.true z),
-    )
-
-fine : (c : Else-c-ne0) → Accepted c.args.s.now
-fine c = accepted-read _ (ap (λ (a : Answer). a.number) (sym c.check_starts-c.ensures.0) ∙ c.if-c-ne0.false)
+returns-in_err-check_starts c =
+    let a = c.args in
+    let r = c.from_residual-in_err-check_starts in
+    let p = err_from_is_err_and r.result r.ensures.1 in
+    rw (p.1, p.2)
+    (sheets-err a.rule a.task (line a.s.now) a.x a.y c.in_ok-rule.ensures.0 _ c.in_err-check_starts.ensures.0, tt)
 
 pub count_at-requires : goal.count_at-requires
-count_at-requires c = order-counts (fine (goal.at.count_at-requires c).Else-c-ne0)
+count_at-requires c = order-counts c.in_ok-check_starts.ensures.1.0
 
 -- what the lengths told, of the plan's size
 told : (c : After-check_lengths) →
     let a = c.args in
-    c.check_lengths.result ≡ lengths_of a.task (line a.s.now).size a.x a.y
+    answered c.check_lengths.result ≡ checks_of a.rule a.task (line a.s.now) a.x a.y
 unfolding line
-told c = c.check_lengths.ensures ∙ rw c.count_at.ensures
+told c =
+    let a = c.args in
+    lengths-told a.rule a.task (line a.s.now) a.x a.y c.in_ok-rule.ensures.0 c.check_lengths.result
+    (ap (λ (q : Answer). q.number) (sym c.in_ok-check_starts.ensures.0)) (c.check_lengths.ensures ∙ rw c.count_at.ensures)
+
+pub returns-in_err-check_lengths : goal.returns-in_err-check_lengths
+returns-in_err-check_lengths c =
+    let r = c.from_residual-in_err-check_lengths in
+    let p = err_from_is_err_and r.result r.ensures.1 in
+    let e = c.in_err-check_lengths.was in
+    rw (p.1, p.2) (rw e at (told (goal.at.returns-in_err-check_lengths c).After-check_lengths), tt)
 
 pub returns : goal.returns
 returns c =
-    let here = goal.at.returns c in
-    let a = c.args in (
-      lengths-left a.rule a.task (line a.s.now) _ _ c.check_rule-a.ensures c.if-a-ne0.false (sheets here.After-check_starts-c)
-          c.if-c-ne0.false (told here.After-check_lengths),
-      λ z. c.check_starts-c.ensures.1 c.if-c-ne0.false,
+    let e = c.in_ok-check_lengths.was in (
+      rw e at (told (goal.at.returns c).After-check_lengths),
+      (c.in_ok-rule.ensures.1, c.in_ok-check_starts.ensures.1.0, c.in_ok-check_starts.ensures.1.1),
     )

@@ -1,15 +1,20 @@
 -- A refusal's line, or the numbers'.
-use Rattle.std.proofs.Common.{sym}
+use Rattle.std.proofs.Common.{sym, refl}
+use Rattle.laws.specs.Results.{some-fault}
 use Rattle.printing.specs.Digits.{replied-refused, replied-numbers}
 use Rattle.printing.specs.Writing.{wrote_as}
+use Rattle.rules.specs.Answers.{accepted}
+use Rattle.rules.specs.Results.{refused_for}
 use Rattle.printing.proofs.put_reply.Goals as goal
 
-pub returns-then-a-ne0 : goal.returns-then-a-ne0
-returns-then-a-ne0 c =
+pub returns-in-Ok : goal.returns-in-Ok
+returns-in-Ok c =
     let s = c.args in
-    wrote_as c.put_refusal.ensures (sym (replied-refused s.word.now s.a s.v.now c.if-a-ne0.true))
+    rw c.in-Ok.is (wrote_as c.put_line.ensures (sym (replied-numbers s.word.now accepted s.v.now refl)))
 
-pub returns : goal.returns
-returns c =
+pub returns-in-Err : goal.returns-in-Err
+returns-in-Err c =
     let s = c.args in
-    wrote_as c.put_line.ensures (sym (replied-numbers s.word.now s.a s.v.now c.if-a-ne0.false))
+    let r = c.in-Err.refusal in
+    rw c.in-Err.is
+    (wrote_as c.put_refusal.ensures (sym (replied-refused s.word.now (refused_for r) s.v.now (some-fault r.fault))))

@@ -8,14 +8,14 @@ use Rattle.session.proofs.text_of.Goals as goal
 pub returns-then-input-gt-LIMIT : goal.returns-then-input-gt-LIMIT
 returns-then-input-gt-LIMIT c =
     let b = c.args.input.now in
-    wrote_as c.put_refusal.ensures (ap refusal c.refused.ensures ∙ printed-many b (omega arith))
+    wrote_as c.put_refusal.ensures (ap refusal c.new.ensures ∙ printed-many b (omega arith))
 
 pub returns-then-end-input : goal.returns-then-end-input
 returns-then-end-input c =
     let b = c.args.input.now in
     let n = c.scan-end.ensures in
     wrote_as c.put_refusal-then-end-input.ensures
-    (ap refusal c.refused-then-end-input.ensures ∙ printed-cut b _ (omega arith) (omega (arith, n.place_is)) (omega arith))
+    (ap refusal c.new-then-end-input.ensures ∙ printed-cut b _ (omega arith) (omega (arith, n.place_is)) (omega arith))
 
 pub put_decoded-requires : goal.put_decoded-requires
 put_decoded-requires c =

@@ -1,16 +1,13 @@
 -- The row is turned, and the one sum that it looks at was made before (`applied-row`).
-use Rattle.std.proofs.Common.{◌≡◌, refl, ◌∙◌, ◌+◌, ◌*◌, arith, ℤ, w32, w64, to_z, of_z}
+use Rattle.std.proofs.Common.{rules, length, ◌≡◌, refl, ◌∙◌, ◌+◌, ◌*◌, arith, ℤ, w32, w64, to_z, of_z}
 use Rattle.factor.specs.Rounding.{rule_by}
-use Rattle.factor.specs.SumBounds.{bounded-set, test-no, test-yes}
 use Rattle.joint.specs.Elements.{sign_at, applied_of}
-use Rattle.rules.specs.Numbers.{bound}
 use Rattle.singlerows.specs.LaidRows.{laid-room, laid-column, laid-given, laid-narrow, laid-turned, applied-laid}
 use Rattle.singlerows.specs.SingleRows.{Turned}
-use Rattle.singlerows.specs.SingleRowsInPlace.{row-through, row-beyond, turned-small, applied-row}
-use Rattle.whole.specs.Diff.{Within}
-use Rattle.whole.specs.Machine.{reads, back}
+use Rattle.singlerows.specs.SingleRowsInPlace.{row-kept, turned-small, applied-row}
+use Rattle.whole.specs.Machine.{back}
 use Rattle.singlerows.proofs.apply_beside.Goals as goal
-use Rattle.singlerows.proofs.apply_beside.Goals.{After-applied_beside-z, After-sign_at-d, After-turn_row, Else-not-is_within, Start}
+use Rattle.singlerows.proofs.apply_beside.Goals.{After-applied_beside-z, After-sign_at-d, After-turn_row, After-keep, Start}
 
 -- the sign of the row
 abbrev D : Start → ℤ
@@ -39,18 +36,6 @@ value c =
     ∙ rw (sign c.before) (applied-laid c.requires.0 c.requires.3 (rule_by c.args.down c.args.even) c.requires.1
     c.requires.2)
 
-pub returns-then-not-is_within : goal.returns-then-not-is_within
-returns-then-not-is_within c =
-    let z = (goal.at.returns-then-not-is_within c).After-applied_beside-z in
-    row-beyond refl (record {
-      turn = c.args.fb.row;
-      before = c.requires.0.low;
-      far = test-no bound (value z) c.is_within.ensures (c.if-not-is_within.true);
-    })
-
-held : (c : Else-not-is_within) → Within bound (Z c.before.before.before.before)
-held c = test-yes bound (value c.before.before) c.is_within.ensures (c.if-not-is_within.false)
-
 pub turn_row-requires : goal.turn_row-requires
 turn_row-requires c =
     let a = c.requires.0 in
@@ -60,17 +45,20 @@ turned : (c : After-turn_row) →
     Turned (sign_at c.args.row.now c.args.fb) (sign_at c.args.col.now c.args.fa c.args.i)
     (c.args.i * c.args.fb.order) c.args.fb.order c.args.x.now c.turn_row.new.x
 turned c =
-    laid-turned c.requires.0 c.requires.3 (rw (sign c.before.before.before.before.before) at c.turn_row.ensures)
+    laid-turned c.requires.0 c.requires.3 (rw (sign c.before.before.before) at c.turn_row.ensures)
+
+long : (c : After-keep) → length c.keep.new.x ≡ length c.args.x.now
+long c = search rules
 
 pub returns : goal.returns
 returns c =
+    let g = goal.at.returns c in
     let a = c.requires.0 in
     let l = c.requires.3 in
-    let t = turned (goal.at.returns c).After-turn_row in
-    let h = held (goal.at.returns c).Else-not-is_within in
-    rw (value (goal.at.returns c).After-applied_beside-z, reads w32 h tt, l.order)
-    (row-through
+    let t = turned g.After-turn_row in
+    row-kept (rw (value g.After-applied_beside-z, l.order) at c.keep.ensures) (long g.After-keep)
+    (turned-small t (a.column.sign c.args.i a.below) a.row.sign a.small)
     (applied-row (rule_by c.args.down c.args.even) c.args.col.now c.args.fa c.args.i (a.alike ∙ c.requires.1)
     c.requires.2 c.requires.1
     a.row a.low c.args.x.now (let r = rw l.order at (laid-room a l) in omega (arith, a.long)) t refl)
-    (bounded-set _ _ (turned-small t (a.column.sign c.args.i a.below) a.row.sign a.small) h))
+    (λ far. record { turn = c.args.fb.row; before = a.low; far = far })

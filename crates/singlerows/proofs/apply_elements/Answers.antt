@@ -1,16 +1,15 @@
 -- The block is as the turns so far leave it, and all of it is in bound.
-use Rattle.std.proofs.Common.{◌≡◌, sym, ap, ◌∙◌, ◌+◌, ◌<◌, arith, ℤ, length, to_z-of_z, w32, w64, to_z, of_z}
-use Rattle.factor.specs.InPlace.{length-in-place}
+use Rattle.std.proofs.Common.{refl, rules, ◌≡◌, sym, ◌∙◌, ◌+◌, ◌<◌, arith, ℤ, length, to_z-of_z, w32, w64, to_z, of_z}
 use Rattle.factor.specs.Rounding.{rule_by}
-use Rattle.factor.specs.SumBounds.{bounded-set, test-no, test-yes}
+use Rattle.factor.specs.SumBounds.{bounded-set, kept-no, kept-yes}
 use Rattle.joint.specs.Elements.{sign_at, rest-element-small}
 use Rattle.joint.specs.Triangles.{total_of, applied_in, applied-from, applied-in}
-use Rattle.rules.specs.Numbers.{bound, at}
+use Rattle.rules.specs.Numbers.{at}
 use Rattle.singlerows.specs.SingleRowsInPlace.{row-through, row-beyond, turn-beyond, turn-next}
-use Rattle.whole.specs.Diff.{Within}
+use Rattle.std.proofs.lemmas.Result.{err_from_is_err_and}
 use Rattle.whole.specs.Machine.{reads, back}
 use Rattle.singlerows.proofs.apply_elements.Goals as goal
-use Rattle.singlerows.proofs.apply_elements.Goals.{After-applied_whole-z, After-crossing_total-s, After-sign_at, Else-not-is_within, In-loop-j}
+use Rattle.singlerows.proofs.apply_elements.Goals.{After-applied_whole-z, After-crossing_total-s, After-sign_at, After-keep, In-loop-j}
 
 -- the element in turn is one of the row
 inside : (c : In-loop-j) → c.loop-j.j < c.args.f.order
@@ -58,27 +57,27 @@ value c =
     ∙ sym (applied-in (rule_by a.down a.even) a.row.now a.f (to_z w32 (of_z w32 a.d)) a.v.now a.k l.j
     l.x))
 
-pub returns-then-not-is_within : goal.returns-then-not-is_within
-returns-then-not-is_within c =
-    let z = (goal.at.returns-then-not-is_within c).After-applied_whole-z in
+long : (c : After-keep) → length c.keep.new.x ≡ length c.args.x.now
+long c = search rules
+
+pub returns-in_err-keep : goal.returns-in_err-keep
+returns-in_err-keep c =
+    let g = goal.at.returns-in_err-keep c in
     let l = c.loop-j in
-    row-beyond (ap length l.invariant.1 ∙ length-in-place _ _ l.j _)
+    rw (err_from_is_err_and c.from_residual.result c.from_residual.ensures.1).1
+    (row-beyond (long g.After-keep)
     (rw (to_z-of_z c.ranges.d) at
     (turn-beyond _ (λ u. c.args.k + u) l.j c.args.x.now c.loop-j-test.true l.invariant.1
-    (test-no bound (value z) c.is_within.ensures (c.if-not-is_within.true))))
-
-held : (c : Else-not-is_within) → Within bound (F c.before.before.before.before.before.before)
-held c = test-yes bound (value c.before.before) c.is_within.ensures (c.if-not-is_within.false)
+    (kept-no (rw (value g.After-applied_whole-z) at c.in_err-keep.ensures) refl))))
 
 pub loop-j-preserved : goal.loop-j-preserved
 loop-j-preserved c =
-    let g = goal.at.loop-j-preserved c in
-    let z = value g.After-applied_whole-z in
-    let h = held g.Else-not-is_within in
-    let l = c.loop-j in (
+    let l = c.loop-j in
+    let h = rw (value (goal.at.loop-j-preserved c).After-applied_whole-z) at c.in_ok-keep.ensures in
+    rw (h.put refl) (
       omega arith,
-      rw (z, reads w32 h tt) (turn-next _ (λ u. c.args.k + u) l.j c.args.x.now l.invariant.1),
-      rw (z, reads w32 h tt) (bounded-set l.x (c.args.k + l.j) l.invariant.2 h),
+      turn-next _ (λ u. c.args.k + u) l.j c.args.x.now l.invariant.1,
+      bounded-set l.x (c.args.k + l.j) l.invariant.2 (kept-yes h refl),
     )
 
 pub returns : goal.returns

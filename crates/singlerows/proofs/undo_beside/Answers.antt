@@ -1,16 +1,16 @@
 -- The row is turned, and the one sum is of the row as turned: what it looks at is recovered then (`undone-row`).
-use Rattle.std.proofs.Common.{◌≡◌, refl, ◌∙◌, ◌+◌, ◌*◌, ◌≤◌, arith, ℤ, length, w32, w64, to_z, of_z}
+use Rattle.std.proofs.Common.{rules, ◌≡◌, refl, ◌∙◌, ◌+◌, ◌*◌, ◌≤◌, arith, ℤ, length, w32, w64, to_z, of_z}
 use Rattle.factor.specs.Rounding.{rule_by}
-use Rattle.factor.specs.SumBounds.{Bounded, bounded-set, test-no, test-yes}
+use Rattle.factor.specs.SumBounds.{Bounded}
 use Rattle.joint.specs.Elements.{sign_at}
 use Rattle.rules.specs.Numbers.{bound, at}
 use Rattle.singlerows.specs.LaidRows.{laid-room, laid-column, laid-given, laid-narrow, laid-turned, undone-laid}
 use Rattle.singlerows.specs.SingleRows.{beside_sum, undone_beside, Turned}
-use Rattle.singlerows.specs.SingleRowsInPlace.{row-through, row-beyond, turned-small, undone-row, undone-stops}
+use Rattle.singlerows.specs.SingleRowsInPlace.{row-kept, turned-small, undone-row, undone-stops}
 use Rattle.whole.specs.Diff.{Within}
 use Rattle.whole.specs.Machine.{reads, back}
 use Rattle.singlerows.proofs.undo_beside.Goals as goal
-use Rattle.singlerows.proofs.undo_beside.Goals.{After-sign_at-d, After-turn_row, After-undone_beside-z, Else-not-is_within, Start}
+use Rattle.singlerows.proofs.undo_beside.Goals.{After-sign_at-d, After-turn_row, After-undone_beside-z, After-keep, Start}
 
 -- the sign of the row
 abbrev D : Start → ℤ
@@ -69,29 +69,19 @@ room s =
     let l = s.requires.3 in
     let h = rw l.order at (laid-room a l) in omega (arith, a.long)
 
-pub returns-then-not-is_within : goal.returns-then-not-is_within
-returns-then-not-is_within c =
-    let g = goal.at.returns-then-not-is_within c in
-    let t = turned g.After-turn_row in
-    let a = c.requires.0 in
-    row-beyond t.long
-    (undone-stops (rule_by c.args.down c.args.even) c.args.col.now c.args.fa c.args.i
-    (a.alike ∙ c.requires.1) c.requires.2 c.requires.1
-    a.row a.low c.args.x.now (room g.Start) t refl
-    (test-no bound (value g.After-undone_beside-z) c.is_within.ensures (c.if-not-is_within.true)))
-
-held : (c : Else-not-is_within) → Within bound (Z c.before.before.before)
-held c = test-yes bound (value c.before.before) c.is_within.ensures (c.if-not-is_within.false)
+long : (c : After-keep) → length c.keep.new.x ≡ length c.args.x.now
+long c = search rules
 
 pub returns : goal.returns
 returns c =
     let g = goal.at.returns c in
     let t = turned g.After-turn_row in
-    let h = held g.Else-not-is_within in
     let a = c.requires.0 in
-    rw (value g.After-undone_beside-z, reads w32 h tt, c.requires.3.order)
-    (row-through
+    row-kept (rw (value g.After-undone_beside-z, c.requires.3.order) at c.keep.ensures) (long g.After-keep)
+    (small g.After-turn_row)
     (undone-row (rule_by c.args.down c.args.even) c.args.col.now c.args.fa c.args.i (a.alike ∙ c.requires.1)
     c.requires.2 c.requires.1
     a.row a.low c.args.x.now (room g.Start) t refl)
-    (bounded-set _ _ (small g.After-turn_row) h))
+    (undone-stops (rule_by c.args.down c.args.even) c.args.col.now c.args.fa c.args.i
+    (a.alike ∙ c.requires.1) c.requires.2 c.requires.1
+    a.row a.low c.args.x.now (room g.Start) t refl)

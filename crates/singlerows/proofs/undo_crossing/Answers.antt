@@ -1,9 +1,9 @@
 -- The block is as u turns leave it, all of it is in bound, and v has the row's sums with what is recovered (`RecoveredSums`).
-use Rattle.std.proofs.Common.{◌≡◌, refl, sym, ap, ◌∙◌, ℕ, ◌+◌, ◌*◌, ◌<◌, add-one, arith, ℤ, ◌+ℤ◌, ◌*ℤ◌, length, set, length-set, w32, w64, to_z, of_z}
+use Rattle.std.proofs.Common.{rules, ◌≡◌, refl, sym, ap, ◌∙◌, ℕ, ◌+◌, ◌*◌, ◌<◌, add-one, arith, ℤ, ◌+ℤ◌, ◌*ℤ◌, length, set, length-set, w32, w64, to_z, of_z}
 use Rattle.factor.specs.InPlace.{in_place, length-in-place}
 use Rattle.factor.specs.LayoutInSheet.{row-wide}
 use Rattle.factor.specs.Rounding.{rule_by}
-use Rattle.factor.specs.SumBounds.{bounded-le, bounded-set, test-no, test-yes}
+use Rattle.factor.specs.SumBounds.{bounded-le, bounded-set, kept-no, kept-yes}
 use Rattle.factor.specs.UndoingOrder.{nth_undone, undoing-permutes}
 use Rattle.joint.specs.Elements.{sign_at, diagonal_of, undone_of, diagonal-small}
 use Rattle.joint.specs.RecoveredSums.{RecoveredSums, recovered-sums-start, recovered-sums-next, recovered-sums-small, recovered-sums-undo}
@@ -11,10 +11,12 @@ use Rattle.joint.specs.RowsInPlace.{undone-here, in_block}
 use Rattle.joint.specs.Sums.{rest_sums, most_column, rest-sums-small}
 use Rattle.rules.proofs.Laws.Lists.{length-fill}
 use Rattle.rules.specs.Numbers.{most_entry, bound, at}
+use Rattle.singlerows.specs.SingleRowsInPlace.{row-through, row-beyond}
+use Rattle.std.proofs.lemmas.Result.{err_from_is_err_and}
 use Rattle.whole.specs.Diff.{Within}
 use Rattle.whole.specs.Machine.{fits, reads, back, within-le, within-+, within-*}
 use Rattle.singlerows.proofs.undo_crossing.Goals as goal
-use Rattle.singlerows.proofs.undo_crossing.Goals.{After-diagonal_of, After-nth_undone-j, After-sign_at-d, After-undone_at-z, After-with_sum, Else-not-is_within}
+use Rattle.singlerows.proofs.undo_crossing.Goals.{After-diagonal_of, After-nth_undone-j, After-sign_at-d, After-undone_at-z, After-with_sum, After-keep}
 
 pub loop-u-init : goal.loop-u-init
 unfolding in_place rest_sums
@@ -95,30 +97,24 @@ value c =
     c.args.fb l.x c.args.i j
     (rw c.nth_undone-j.ensures at (inside-order p))))
 
-pub returns-then-not-is_within : goal.returns-then-not-is_within
-returns-then-not-is_within c =
-    let z = value (goal.at.returns-then-not-is_within c).After-undone_at-z in
+long-after : (c : After-keep) → length c.keep.new.x ≡ length c.args.x.now
+long-after c = search rules
+
+pub keep-requires : goal.keep-requires
+keep-requires c = (tt, let h = room (goal.at.keep-requires c).After-nth_undone-j in omega arith)
+
+pub returns-in_err-keep : goal.returns-in_err-keep
+returns-in_err-keep c =
+    let g = goal.at.returns-in_err-keep c in
     let l = c.loop-u in
-    record {
-      through = λ e. let z : ◌≡◌ {A = ℕ} 0 1 = cc in absurd (omega arith);
-      stopped = λ e. record {
-        turn = l.u;
-        before = c.loop-u-test.true;
-        far =
-            rw (← l.invariant.1, ← c.nth_undone-j.ensures)
-            (test-no bound z c.is_within.ensures (c.if-not-is_within.true));
-      };
-      keeps = ap length l.invariant.1 ∙ length-in-place _ _ l.u _;
-    }
-
-held : (c : Else-not-is_within) → Within bound (F c.before.before.before.before.before.before)
-held c = test-yes bound (value c.before.before) c.is_within.ensures (c.if-not-is_within.false)
-
-pub offset_bounds-x-e-in-loop-u : goal.offset_bounds-x-e-in-loop-u
-offset_bounds-x-e-in-loop-u c = let h = room (goal.at.offset_bounds-x-e-in-loop-u c).After-nth_undone-j in omega arith
-
-pub bounds-x-e-in-loop-u : goal.bounds-x-e-in-loop-u
-bounds-x-e-in-loop-u c = let h = room (goal.at.bounds-x-e-in-loop-u c).After-nth_undone-j in omega arith
+    rw (err_from_is_err_and c.from_residual.result c.from_residual.ensures.1).1
+    (row-beyond (long-after g.After-keep) (record {
+      turn = l.u;
+      before = c.loop-u-test.true;
+      far =
+          rw (← l.invariant.1, ← c.nth_undone-j.ensures)
+          (kept-no (rw (value g.After-undone_at-z) at c.in_err-keep.ensures) refl);
+    }))
 
 -- a column of the row of sums
 column : (p : After-nth_undone-j) → p.nth_undone-j.result < 16
@@ -139,14 +135,14 @@ diagonal : (c : After-diagonal_of) →
     (sign_at c.args.col.now c.args.fa c.args.i)
 diagonal c =
     back w32 _ c.diagonal_of.type_inv ∙ c.diagonal_of.ensures
-    ∙ rw (sign c.before.before.before.before.before.before.before)
+    ∙ rw (sign c.before.before.before.before.before.before.before.before.before)
 
 pub with_sum-requires : goal.with_sum-requires
 with_sum-requires c =
     let g = goal.at.with_sum-requires c in
     let o = diagonal-is-small g.After-nth_undone-j in
     let v = c.loop-u.invariant.4.small c.nth_undone-j.result in
-    let h = held g.Else-not-is_within in
+    let h = kept-yes (rw (value g.After-undone_at-z) at c.in_ok-keep.ensures) refl in
     rw (reads w64 v tt, diagonal g.After-diagonal_of, value g.After-undone_at-z)
     (fits o tt, fits (within-* o h) tt, fits (within-+ v (within-* o h)) tt)
 
@@ -161,13 +157,13 @@ abbrev G : After-nth_undone-j → ℤ
 G p = at p.loop-u.v p.nth_undone-j.result +ℤ (diagonal_of (D p) *ℤ F p)
 
 sum_is : (c : After-with_sum) →
-    to_z w64 (of_z w64 c.with_sum.result) ≡ G c.before.before.before.before.before.before.before.before.before
+    to_z w64 (of_z w64 c.with_sum.result) ≡ G c.before.before.before.before.before.before.before.before.before.before.before
 sum_is c =
     back w64 _ c.with_sum.type_inv ∙ c.with_sum.ensures
     ∙ rw (
       reads w64 (c.loop-u.invariant.4.small c.nth_undone-j.result) tt,
       diagonal c.before,
-      value c.before.before.before.before.before,
+      value c.before.before.before.before.before.before.before,
     )
 
 long : (p : After-nth_undone-j) → length p.loop-u.x ≡ 256
@@ -203,14 +199,15 @@ unfolding in_place
 loop-u-preserved c =
     let g = goal.at.loop-u-preserved c in
     let p = g.After-nth_undone-j in
-    let z = value g.After-undone_at-z in
-    let h = held g.Else-not-is_within in
+    let k = rw (value g.After-undone_at-z) at c.in_ok-keep.ensures in
+    let h = kept-yes k refl in
     let t = sum_is g.After-with_sum in
-    let l = c.loop-u in (
+    let l = c.loop-u in
+    rw (k.put refl) (
       omega arith,
-      rw (add-one, z, reads w32 h tt, c.nth_undone-j.ensures, l.invariant.1),
-      rw (z, reads w32 h tt) (bounded-set l.x (P p) l.invariant.2 h),
-      rw (z, reads w32 h tt, t) (next p),
+      rw (add-one, c.nth_undone-j.ensures, l.invariant.1),
+      bounded-set l.x (P p) l.invariant.2 h,
+      rw t (next p),
       rw t (bounded-set l.v c.nth_undone-j.result l.invariant.4 (small p h)),
       length-set l.v c.nth_undone-j.result _ ∙ l.invariant.5,
     )
@@ -219,8 +216,4 @@ pub returns : goal.returns
 returns c =
     let l = c.loop-u in
     let e : l.u ≡ c.args.fb.order = omega arith in
-    record {
-      through = λ t. (l.invariant.1 ∙ rw e, l.invariant.2);
-      stopped = λ t. let z : ◌≡◌ {A = ℕ} 0 1 = cc in absurd (omega arith);
-      keeps = ap length l.invariant.1 ∙ length-in-place _ _ l.u _;
-    }
+    row-through (l.invariant.1 ∙ rw e) l.invariant.2

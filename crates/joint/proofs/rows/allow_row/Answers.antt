@@ -1,8 +1,9 @@
 -- The block is as j turns leave it, and all of it is in bound; each turn makes the element from the tests and sums of row i
 -- (`link`).
-use Rattle.std.proofs.Common.{Bool, List, ◌≡◌, sym, ap, ◌∙◌, ℕ, ◌+◌, ◌*◌, ◌<◌, add-one, arith, ℤ, length, w32, w64, to_z, of_z, ◌%◌}
+use Rattle.std.proofs.Common.{rules, is_ok, Bool, List, ◌≡◌, sym, ap, ◌∙◌, ℕ, ◌+◌, ◌*◌, ◌<◌, add-one, arith, ℤ, length, w32, w64, to_z, of_z, ◌%◌}
 use Rattle.factor.specs.InPlace.{in_place, length-in-place}
-use Rattle.factor.specs.SumBounds.{Bounded, bounded-set, test-no, test-yes}
+use Rattle.std.proofs.lemmas.Result.{err_from_is_err_and}
+use Rattle.factor.specs.SumBounds.{Bounded, bounded-set, kept-no, kept-yes}
 use Rattle.joint.specs.Allowances.{allowed_at, allowed_of, magnitude-sums-small}
 use Rattle.joint.specs.RowsInPlace.{in_row, steps-same, row-ahead, allowed-here}
 use Rattle.factor.specs.declared.Layout.{Layout}
@@ -11,7 +12,7 @@ use Rattle.rules.proofs.Laws.Rectangles.{col-of}
 use Rattle.rules.specs.Numbers.{most_allowance, at}
 use Rattle.whole.specs.Machine.{reads, back}
 use Rattle.joint.proofs.rows.allow_row.Goals as goal
-use Rattle.joint.proofs.rows.allow_row.Goals.{After-allowed_at-z, After-magnitude_sums_at}
+use Rattle.joint.proofs.rows.allow_row.Goals.{After-allowed_at-z, After-keep, After-magnitude_sums_at}
 
 -- element e by the test and the sums of its row
 abbrev G : Rule → List ℤ → Layout → Bool → List ℤ → List ℤ → ℕ → ℤ
@@ -59,30 +60,35 @@ value c =
       col-of 0 a.fb.order a.i l.j c.loop-j-test.true,
     )
 
-pub returns-then-not-is_within : goal.returns-then-not-is_within
-returns-then-not-is_within c =
-    let a = goal.at.returns-then-not-is_within c in
-    record {
+-- the block stays as long as it was
+long : (c : After-keep) → length c.keep.new.x ≡ length c.args.x.now
+long c = search rules
+
+pub returns-in_err-keep : goal.returns-in_err-keep
+returns-in_err-keep c =
+    let a = goal.at.returns-in_err-keep c in
+    let p = err_from_is_err_and c.from_residual.result c.from_residual.ensures.1 in
+    let q = rw (value a.After-allowed_at-z) at c.keep.ensures in
+    rw p.1 (record {
       through = λ e. let z : ◌≡◌ {A = ℕ} 0 1 = cc in absurd (omega arith);
       stopped = λ e. record {
         turn = c.loop-j.j;
         before = c.loop-j-test.true;
         far =
-            rw (link a.After-magnitude_sums_at c.loop-j.j c.loop-j-test.true)
-            (test-no most_allowance (value a.After-allowed_at-z) c.is_within.ensures c.if-not-is_within.true);
+            rw (link a.After-magnitude_sums_at c.loop-j.j c.loop-j-test.true) (kept-no q (ap is_ok c.in_err-keep.was));
       };
-      keeps = ap length c.loop-j.invariant.1 ∙ length-in-place _ _ c.loop-j.j _;
-    }
+      keeps = long a.After-keep;
+    })
 
 pub loop-j-preserved : goal.loop-j-preserved
 unfolding in_place
 loop-j-preserved c =
     let l = c.loop-j in
-    let v = value (goal.at.loop-j-preserved c).After-allowed_at-z in
-    let h = test-yes most_allowance v c.is_within.ensures c.if-not-is_within.false in (
+    let q = rw (value (goal.at.loop-j-preserved c).After-allowed_at-z) at c.keep.ensures in
+    let o = ap is_ok c.in_ok-keep.was in (
       omega arith,
-      rw (add-one, v, reads w32 h tt, l.invariant.1),
-      rw (v, reads w32 h tt) (bounded-set l.x (c.args.i * c.args.fb.order + l.j) l.invariant.2 h),
+      q.put o ∙ rw (add-one, l.invariant.1),
+      rw (q.put o) (bounded-set l.x (c.args.i * c.args.fb.order + l.j) l.invariant.2 (kept-yes q o)),
     )
 
 pub returns : goal.returns

@@ -11,8 +11,8 @@ add_rows-requires c =
     (side-adding c.requires.0 c.args.k n 1 (omega arith) (omega (arith, c.requires.2)) c.requires.0.wide
     (own-small n c.args.o c.requires.0.wide c.requires.0.numbers c.requires.4) (length-fill n _ (replicate 16 (pos 0))))
 
-pub returns : goal.returns
-returns c =
+pub returns-else-is_by_fours : goal.returns-else-is_by_fours
+returns-else-is_by_fours c =
     c.add_rows.ensures
     ∙ rw (c.add_row.ensures, c.requires.1, to_z-of_z c.ranges.diagonal)
     (added_twice c.args.n _ _ (replicate 16 (pos 0)) c.requires.0.wide)

@@ -1,5 +1,5 @@
 -- The two runs of entries and the own term are small together (`across-small`).
-use Rattle.std.proofs.Common.{◌≡◌, ◌∙◌, ap₂, ℤ, ◌+ℤ◌, w32, w64, to_z, of_z, ◌*◌}
+use Rattle.std.proofs.Common.{◌≡◌, ◌∙◌, ap₂, ◌+ℤ◌, w32, w64, to_z, of_z, ◌*◌}
 use Rattle.joint.specs.Sums.{entries_sum, most_column, right-wide, wide_runs, entries-small}
 use Rattle.rules.specs.Numbers.{at, most_entry}
 use Rattle.whole.specs.Diff.{Within}
@@ -10,17 +10,16 @@ use Rattle.joint.proofs.sums.whole_sum.Goals.{After-wide_sum-2, Start}
 pub wide_sum-requires-2 : goal.wide_sum-requires-2
 wide_sum-requires-2 c = right-wide c.requires.0 c.requires.1
 
-abbrev S : Start → ℤ
-S s = entries_sum s.args.a.now s.args.r s.args.m (at s.args.v.now)
-
-value : (c : After-wide_sum-2) →
-    to_z w64 (of_z w64 c.wide_sum.result) +ℤ to_z w64 (of_z w64 c.wide_sum-2.result) ≡ S c.before.before
+value :
+    (c : After-wide_sum-2) →
+    to_z w64 (of_z w64 c.wide_sum.result) +ℤ to_z w64 (of_z w64 c.wide_sum-2.result)
+    ≡ entries_sum c.args.a.now c.args.r c.args.m (at c.args.v.now)
 value c =
     ap₂ ◌+ℤ◌ (back w64 _ c.wide_sum.type_inv ∙ c.wide_sum.ensures)
     (back w64 _ c.wide_sum-2.type_inv ∙ c.wide_sum-2.ensures)
     ∙ wide_runs c.args.a.now c.args.r c.args.m c.args.v.now
 
-small : (s : Start) → Within (15 * (most_entry * most_column)) (S s)
+small : (s : Start) → Within (15 * (most_entry * most_column)) (entries_sum s.args.a.now s.args.r s.args.m (at s.args.v.now))
 small s = entries-small s.requires.0 (at s.args.v.now) s.requires.1.small
 
 pub overflow_add-sum : goal.overflow_add-sum

@@ -1,5 +1,4 @@
 -- The block is as m turns leave it, and in bound (`Filled`).
-use Rattle.std.proofs.Common.{◌≡◌, ◌-◌, ◌≤◌}
 use Rattle.factor.specs.Rounding.{rule_by}
 use Rattle.linerun.specs.Filling.{Filled}
 use Rattle.linerun.specs.Steps.{applied_at}
@@ -8,8 +7,4 @@ use Rattle.linerun.proofs.kinds.single.Given as goal
 
 abbrev pub invariant-loop-m : goal.invariant-loop-m
 invariant-loop-m l =
-    (l.m ≤ l.n) × (l.n ≡ l.f.order)
-    × Filled (λ k. fill k (applied_at (rule_by l.down l.even) l.sheet l.f l.x) l.x) l.m l.y
-
-abbrev pub decreases-loop-m : goal.decreases-loop-m
-decreases-loop-m l = l.n - l.m
+    Filled (λ k. fill k (applied_at (rule_by l.down l.even) l.sheet l.f l.x) l.x) l.m l.y

@@ -1,16 +1,17 @@
 -- The block is as t turns leave it, and in bound (`Filled`).
-use Rattle.std.proofs.Common.{rules, List, ◌≡◌, refl, ◌∙◌, ℕ, ◌+◌, ◌<◌, arith, ℤ, ◌-ℤ◌, ◌*ℤ◌, length, w64, to_z, of_z}
+use Rattle.std.specs.Prelude.{is_ok}
+use Rattle.std.proofs.Common.{rules, ap, List, ◌≡◌, refl, ◌∙◌, ℕ, ◌+◌, ◌<◌, arith, ℤ, ◌-ℤ◌, ◌*ℤ◌, length, w64, to_z, of_z}
 use Rattle.factor.specs.InPlace.{in_place}
 use Rattle.factor.specs.Rounding.{rule_by}
 use Rattle.factor.specs.UndoingOrder.{nth_undone}
-use Rattle.linerun.specs.Filling.{Filling, filled_next, filled-refused, filled-done, undone-fills}
+use Rattle.linerun.specs.Filling.{Filling, refuses, filled_next, filled-refused, filled-done, undone-fills}
 use Rattle.linerun.specs.LineBounds.{rounded-sum-small}
 use Rattle.linerun.specs.Steps.{rounded_sum, undone_at, undone_in_place}
 use Rattle.rules.specs.Numbers.{at}
 use Rattle.rules.specs.declared.Rule.{Rule}
 use Rattle.whole.specs.Machine.{back}
 use Rattle.linerun.proofs.kinds.single_back.Goals as goal
-use Rattle.linerun.proofs.kinds.single_back.Goals.{After-single_sum-q, After-undo_at, In-loop-t, Start}
+use Rattle.linerun.proofs.kinds.single_back.Goals.{After-single_sum-q, After-undo_at, Start}
 
 -- the rule of the two tests
 abbrev K : Start → Rule
@@ -18,7 +19,7 @@ K s = rule_by s.args.down s.args.even
 
 -- the block after t turns, the element of turn t, and what it was
 abbrev W : Start → ℕ → List ℤ
-W s t = undone_in_place (K s) s.args.sheet.now s.args.f t s.args.y
+W s t = undone_in_place (K s) s.args.sheet.now s.args.f t s.args.x.now
 
 abbrev P : Start → ℕ → ℕ
 P s t = nth_undone s.args.f.kind s.args.f.order s.args.f.row t
@@ -26,16 +27,12 @@ P s t = nth_undone s.args.f.kind s.args.f.order s.args.f.row t
 abbrev F : Start → ℕ → ℤ
 F s t = undone_at (K s) s.args.sheet.now s.args.f (W s t) (P s t)
 
-len : (s : Start) → length s.args.y ≡ 16
+len : (s : Start) → length s.args.x.now ≡ 16
 len s = search rules
 
 fills : (s : Start) → Filling s.args.f.order (W s) (P s) (F s)
 unfolding nth_undone
-fills s = undone-fills (K s) s.requires.0 s.args.y (len s) s.requires.2 (P s) (λ t l. refl)
-
--- the turn is one of the order's
-turn : (c : In-loop-t) → c.loop-t.t < c.args.f.order
-turn c = let l = c.loop-t-test.true in omega (arith, c.loop-t.invariant.1)
+fills s = undone-fills (K s) s.requires.0 s.args.x.now (len s) s.requires.2 (P s) (λ t l. refl)
 
 -- the place of this turn
 small-place : (s : Start) (t m : ℕ) → t < s.args.f.order → m ≡ P s t → m < s.args.f.order
@@ -52,10 +49,10 @@ pub undo_at-requires : goal.undo_at-requires
 undo_at-requires c =
     let here = goal.at.undo_at-requires c in
     let s = here.Start in
-    let l = small-place s c.loop-t.t c.nth_undone-m.result (turn here.In-loop-t) c.nth_undone-m.ensures in (
-      (c.requires.0, l, c.loop-t.invariant.2.small),
+    let l = small-place s c.loop-t.t c.nth_undone-m.result c.loop-t-test.true c.nth_undone-m.ensures in (
+      (c.requires.0, l, c.loop-t.invariant.small),
       rw (sum here.After-single_sum-q)
-          (rounded-sum-small c.requires.0 c.nth_undone-m.result l (K s) c.loop-t.invariant.2.small),
+          (rounded-sum-small c.requires.0 c.nth_undone-m.result l (K s) c.loop-t.invariant.small),
     )
 
 -- what the element was
@@ -65,32 +62,30 @@ value :
     let q = c.single_sum-q.result in
     let k = rule_by c.args.down c.args.even in
     at c.args.sheet.now (c.args.f.signs + m) *ℤ (at c.loop-t.x m -ℤ to_z w64 (of_z w64 q))
-    ≡ undone_at k c.args.sheet.now c.args.f (undone_in_place k c.args.sheet.now c.args.f c.loop-t.t c.args.y) m
+    ≡ undone_at k c.args.sheet.now c.args.f (undone_in_place k c.args.sheet.now c.args.f c.loop-t.t c.args.x.now) m
 unfolding undone_at
 value c = rw (
   back w64 _ c.single_sum-q.type_inv ∙ c.single_sum-q.ensures,
   c.nth_undone-m.ensures,
-  c.loop-t.invariant.2.is,
+  c.loop-t.invariant.is,
 )
 
-pub returns-then-not-undo_at : goal.returns-then-not-undo_at
-returns-then-not-undo_at c =
-    let here = goal.at.returns-then-not-undo_at c in
-    filled-refused (fills here.Start) (turn here.In-loop-t) (value here.After-undo_at)
+pub returns-in_err-undo_at : goal.returns-in_err-undo_at
+returns-in_err-undo_at c =
+    let here = goal.at.returns-in_err-undo_at c in
+    refuses c.from_residual.result _ c.from_residual.ensures.1
+    (filled-refused (fills here.Start) c.loop-t-test.true (value here.After-undo_at)
     (rw c.nth_undone-m.ensures at c.undo_at.ensures)
-    (c.if-not-undo_at.true)
+    (ap is_ok c.in_err-undo_at.was))
 
 pub loop-t-preserved : goal.loop-t-preserved
 unfolding in_place
 loop-t-preserved c =
-    let here = goal.at.loop-t-preserved c in (
-      omega arith,
-      c.loop-t.invariant.1,
-      filled_next (fills here.Start) (turn here.In-loop-t) (value here.After-undo_at)
-          (rw c.nth_undone-m.ensures at c.undo_at.ensures) c.loop-t.invariant.2
-          (c.if-not-undo_at.false),
-    )
+    let here = goal.at.loop-t-preserved c in
+    filled_next (fills here.Start) c.loop-t-test.true (value here.After-undo_at)
+    (rw c.nth_undone-m.ensures at c.undo_at.ensures) c.loop-t.invariant
+    (ap is_ok c.in_ok-undo_at.was)
 
 pub returns : goal.returns
 returns c =
-    filled-done (fills (goal.at.returns c).Start) (omega (arith, c.loop-t.invariant.1)) c.loop-t.invariant.2
+    filled-done (fills (goal.at.returns c).Start) (omega arith) c.loop-t.invariant

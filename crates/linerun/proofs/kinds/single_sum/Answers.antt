@@ -11,10 +11,10 @@ use Rattle.whole.specs.Machine.{back, within-le}
 use Rattle.linerun.proofs.kinds.single_sum.Goals as goal
 use Rattle.linerun.proofs.kinds.single_sum.Goals.{After-row_sum}
 
-pub returns-then-m-f : goal.returns-then-m-f
-returns-then-m-f c =
+pub returns-else-m-f : goal.returns-else-m-f
+returns-else-m-f c =
     sym (single-none (rule_by c.args.down c.args.even) c.args.sheet.now c.args.f c.args.x.now c.args.m
-    c.requires.1 c.if-m-f.true)
+    c.requires.1 c.if-m-f.false)
 
 value :
     (c : After-row_sum) →

@@ -1,7 +1,8 @@
 -- The block is as m turns leave it, and in bound (`Filled`); p is where the next row starts.
-use Rattle.std.proofs.Common.{rules, ◌≡◌, sym, ◌∙◌, ℕ, suc, ◌+◌, ◌-◌, ◌<◌, add-one, arith, ℤ, ◌+ℤ◌, ◌*ℤ◌, length, w64, to_z, of_z}
+use Rattle.std.specs.Prelude.{is_ok}
+use Rattle.std.proofs.Common.{rules, ap, ◌≡◌, sym, ◌∙◌, ℕ, suc, ◌+◌, ◌-◌, add-one, arith, ℤ, ◌+ℤ◌, ◌*ℤ◌, length, w64, to_z, of_z}
 use Rattle.factor.specs.Rounding.{rule_by}
-use Rattle.linerun.specs.Filling.{Filling, filled_next, filled-refused, filled-done, applied-fills}
+use Rattle.linerun.specs.Filling.{Filling, refuses, filled_next, filled-refused, filled-done, applied-fills}
 use Rattle.linerun.specs.LineBounds.{rounded-sum-small}
 use Rattle.linerun.specs.RowsByKind.{upper-at, upper-right}
 use Rattle.linerun.specs.Steps.{rounded_sum, applied_at}
@@ -11,7 +12,7 @@ use Rattle.rules.specs.Stages.{fill}
 use Rattle.rules.specs.declared.Rule.{Rule}
 use Rattle.whole.specs.Machine.{back}
 use Rattle.linerun.proofs.kinds.upper.Goals as goal
-use Rattle.linerun.proofs.kinds.upper.Goals.{After-apply_at, After-right_sum-q, In-loop-m, Start}
+use Rattle.linerun.proofs.kinds.upper.Goals.{After-apply_at, After-right_sum-q, Start}
 
 -- the rule of the two tests
 abbrev K : Start → Rule
@@ -19,64 +20,60 @@ K s = rule_by s.args.down s.args.even
 
 -- what element k becomes
 abbrev F : Start → ℕ → ℤ
-F s = applied_at (K s) s.args.sheet.now s.args.f s.args.x
+F s = applied_at (K s) s.args.sheet.now s.args.f s.args.x.now
 
-len : (s : Start) → length s.args.x ≡ 16
+len : (s : Start) → length s.args.x.now ≡ 16
 len s = search rules
 
-fills : (s : Start) → Filling s.args.f.order (λ k. fill k (F s) s.args.x) (λ k. k) (F s)
-fills s = applied-fills (K s) s.requires.0 s.args.x (len s)
-
--- the turn is one of the order's
-turn : (c : In-loop-m) → c.loop-m.m < c.args.f.order
-turn c = let l = c.loop-m-test.true in omega (arith, c.loop-m.invariant.1)
+fills : (s : Start) → Filling s.args.f.order (λ k. fill k (F s) s.args.x.now) (λ k. k) (F s)
+fills s = applied-fills (K s) s.requires.0 s.args.x.now (len s)
 
 pub right_sum-q-requires : goal.right_sum-q-requires
 right_sum-q-requires c =
     let here = goal.at.right_sum-q-requires c in (
-      (c.requires.0, (turn here.In-loop-m), c.requires.2),
+      (c.requires.0, c.loop-m-test.true, c.requires.2),
       c.requires.1,
-      c.loop-m.invariant.2 ∙ sym (upper-at c.args.f c.loop-m.m c.requires.1),
+      c.loop-m.invariant.0 ∙ sym (upper-at c.args.f c.loop-m.m c.requires.1),
     )
 
 -- the rounded sum, as it was read
 sum :
     (c : After-right_sum-q) →
     to_z w64 (of_z w64 c.right_sum-q.result)
-    ≡ rounded_sum (rule_by c.args.down c.args.even) c.args.sheet.now c.args.f c.args.x c.loop-m.m
+    ≡ rounded_sum (rule_by c.args.down c.args.even) c.args.sheet.now c.args.f c.args.x.now c.loop-m.m
 sum c = back w64 _ c.right_sum-q.type_inv ∙ c.right_sum-q.ensures
 
 pub apply_at-requires : goal.apply_at-requires
 apply_at-requires c =
     let here = goal.at.apply_at-requires c in (
-      (c.requires.0, turn here.In-loop-m, c.requires.2),
+      (c.requires.0, c.loop-m-test.true, c.requires.2),
       rw (sum here.After-right_sum-q)
-          (rounded-sum-small c.requires.0 c.loop-m.m (turn here.In-loop-m) (K here.Start) c.requires.2),
+          (rounded-sum-small c.requires.0 c.loop-m.m c.loop-m-test.true (K here.Start) c.requires.2),
     )
 
 -- what the element becomes
 value :
     (c : After-apply_at) →
     let q = c.right_sum-q.result in
-    (at c.args.sheet.now (c.args.f.signs + c.loop-m.m) *ℤ at c.args.x c.loop-m.m) +ℤ to_z w64 (of_z w64 q)
-    ≡ applied_at (rule_by c.args.down c.args.even) c.args.sheet.now c.args.f c.args.x c.loop-m.m
+    (at c.args.sheet.now (c.args.f.signs + c.loop-m.m) *ℤ at c.args.x.now c.loop-m.m) +ℤ to_z w64 (of_z w64 q)
+    ≡ applied_at (rule_by c.args.down c.args.even) c.args.sheet.now c.args.f c.args.x.now c.loop-m.m
 unfolding applied_at
 value c = rw (back w64 _ c.right_sum-q.type_inv ∙ c.right_sum-q.ensures)
 
-pub returns-then-not-apply_at : goal.returns-then-not-apply_at
-returns-then-not-apply_at c =
-    let here = goal.at.returns-then-not-apply_at c in
-    filled-refused (fills here.Start) (turn here.In-loop-m) (value here.After-apply_at) c.apply_at.ensures
-    (c.if-not-apply_at.true)
+pub returns-in_err-apply_at : goal.returns-in_err-apply_at
+returns-in_err-apply_at c =
+    let here = goal.at.returns-in_err-apply_at c in
+    refuses c.from_residual.result _ c.from_residual.ensures.1
+    (filled-refused (fills here.Start) c.loop-m-test.true (value here.After-apply_at) c.apply_at.ensures
+    (ap is_ok c.in_err-apply_at.was))
 
 pub overflow_add-p : goal.overflow_add-p
 overflow_add-p c =
-    let r = (c.requires.0.row c.loop-m.m (turn (goal.at.overflow_add-p c).In-loop-m)).room in
-    let h = turn (goal.at.overflow_add-p c).In-loop-m in
+    let r = (c.requires.0.row c.loop-m.m c.loop-m-test.true).room in
+    let h = c.loop-m-test.true in
     omega (
       arith,
-      c.loop-m.invariant.1,
-      c.loop-m.invariant.2,
+      c.loop-m.invariant.0,
       upper-at c.args.f c.loop-m.m c.requires.1,
       upper-right c.args.f
           c.loop-m.m c.requires.1,
@@ -86,15 +83,13 @@ pub loop-m-preserved : goal.loop-m-preserved
 unfolding above
 loop-m-preserved c =
     let here = goal.at.loop-m-preserved c in (
-      omega arith,
-      c.loop-m.invariant.1,
       let e : above c.args.f.order (c.loop-m.m + 1) ≡ above c.args.f.order c.loop-m.m +
-          (c.args.f.order - suc c.loop-m.m) = rw add-one in let h = turn here.In-loop-m in omega
-          (arith, c.loop-m.invariant.1, c.loop-m.invariant.2),
-      filled_next (fills here.Start) (turn here.In-loop-m) (value here.After-apply_at) c.apply_at.ensures c.loop-m.invariant.3
-          (c.if-not-apply_at.false),
+          (c.args.f.order - suc c.loop-m.m) = rw add-one in let h = c.loop-m-test.true in omega
+          (arith, c.loop-m.invariant.0),
+      filled_next (fills here.Start) c.loop-m-test.true (value here.After-apply_at) c.apply_at.ensures c.loop-m.invariant.1
+          (ap is_ok c.in_ok-apply_at.was),
     )
 
 pub returns : goal.returns
 returns c =
-    filled-done (fills (goal.at.returns c).Start) (omega (arith, c.loop-m.invariant.1)) c.loop-m.invariant.3
+    filled-done (fills (goal.at.returns c).Start) (omega arith) c.loop-m.invariant.1

@@ -1,10 +1,11 @@
 -- The block is as t turns leave it, and in bound (`Filled`); p is where the next row starts.
-use Rattle.std.proofs.Common.{rules, List, ◌≡◌, refl, ◌∙◌, ℕ, suc, ◌+◌, ◌-◌, ◌≤◌, ◌<◌}
+use Rattle.std.specs.Prelude.{is_ok}
+use Rattle.std.proofs.Common.{rules, ap, List, ◌≡◌, refl, ◌∙◌, ℕ, suc, ◌+◌, ◌-◌, ◌≤◌}
 use Rattle.std.proofs.Common.{arith, ℤ, ◌-ℤ◌, ◌*ℤ◌, length, w64, to_z, of_z}
 use Rattle.factor.specs.InPlace.{in_place}
 use Rattle.factor.specs.Rounding.{rule_by}
 use Rattle.factor.specs.UndoingOrder.{nth_undone}
-use Rattle.linerun.specs.Filling.{Filling, filled_next, filled-refused, filled-done, undone-fills}
+use Rattle.linerun.specs.Filling.{Filling, refuses, filled_next, filled-refused, filled-done, undone-fills}
 use Rattle.linerun.specs.LineBounds.{rounded-sum-small}
 use Rattle.linerun.specs.RowsByKind.{upper-at, above-all, above-last}
 use Rattle.linerun.specs.Steps.{rounded_sum, undone_at, undone_in_place}
@@ -22,7 +23,7 @@ K s = rule_by s.args.down s.args.even
 
 -- the block after t turns, the element of turn t, and what it was
 abbrev W : Start → ℕ → List ℤ
-W s t = undone_in_place (K s) s.args.sheet.now s.args.f t s.args.y
+W s t = undone_in_place (K s) s.args.sheet.now s.args.f t s.args.x.now
 
 abbrev P : Start → ℕ → ℕ
 P s t = s.args.f.order - 1 - t
@@ -30,12 +31,12 @@ P s t = s.args.f.order - 1 - t
 abbrev F : Start → ℕ → ℤ
 F s t = undone_at (K s) s.args.sheet.now s.args.f (W s t) (P s t)
 
-len : (s : Start) → length s.args.y ≡ 16
+len : (s : Start) → length s.args.x.now ≡ 16
 len s = search rules
 
 fills : (s : Start) → Filling s.args.f.order (W s) (P s) (F s)
 unfolding nth_undone
-fills s = undone-fills (K s) s.requires.0 s.args.y (len s) s.requires.2 (P s) (λ t l. rw s.requires.1 (omega arith))
+fills s = undone-fills (K s) s.requires.0 s.args.x.now (len s) s.requires.2 (P s) (λ t l. rw s.requires.1 (omega arith))
 
 -- a factor of some order has a last row, which ends in the sheet
 last : (s : Start) → s.args.f.entries + triangle s.args.f.order ≤ length s.args.sheet.now
@@ -51,17 +52,11 @@ overflow_add-p c = let h = last (goal.at.overflow_add-p c).Start in omega (arith
 pub loop-t-init : goal.loop-t-init
 unfolding in_place
 loop-t-init c = (
-  omega arith,
-  refl,
   let e = c.before_lower.ensures in let z : c.args.f.order - 0 ≡
       c.args.f.order = omega arith in rw z (omega (arith, above-all c.args.f.order)),
   record
       { is = refl; small = c.requires.3 },
 )
-
--- the turn is one of the order's
-turn : (c : In-loop-t) → c.loop-t.t < c.args.f.order
-turn c = let l = c.loop-t-test.true in omega (arith, c.loop-t.invariant.1)
 
 -- where the row of this turn starts
 place : (c : In-loop-t) →
@@ -71,14 +66,14 @@ unfolding above
 place c =
     let f = c.args.f in
     let t = c.loop-t.t in
-    let l = turn c in
+    let l = c.loop-t-test.true in
     let e : f.order - t ≡ suc (f.order - 1 - t) = omega arith in
     let d : f.order - suc (f.order - 1 - t) ≡ t = omega arith in
-    c.loop-t.invariant.2 ∙ rw (e, d) (omega arith)
+    c.loop-t.invariant.0 ∙ rw (e, d) (omega arith)
 
 pub right_sum-q-requires : goal.right_sum-q-requires
 right_sum-q-requires c = (
-  (c.requires.0, (let l = turn (goal.at.right_sum-q-requires c).In-loop-t in omega arith), c.loop-t.invariant.3.small),
+  (c.requires.0, (let l = c.loop-t-test.true in omega arith), c.loop-t.invariant.1.small),
   c.requires.1,
   (let e = place (goal.at.right_sum-q-requires c).In-loop-t in omega (
     arith,
@@ -97,10 +92,10 @@ sum c = back w64 _ c.right_sum-q.type_inv ∙ c.right_sum-q.ensures
 pub undo_at-requires : goal.undo_at-requires
 undo_at-requires c =
     let here = goal.at.undo_at-requires c in (
-      (c.requires.0, (let t = turn here.In-loop-t in omega arith), c.loop-t.invariant.3.small),
+      (c.requires.0, (let t = c.loop-t-test.true in omega arith), c.loop-t.invariant.1.small),
       rw (sum here.After-right_sum-q)
-          (rounded-sum-small c.requires.0 (c.args.f.order - 1 - c.loop-t.t) (let t = turn here.In-loop-t in omega arith)
-          (K here.Start) c.loop-t.invariant.3.small),
+          (rounded-sum-small c.requires.0 (c.args.f.order - 1 - c.loop-t.t) (let t = c.loop-t-test.true in omega arith)
+          (K here.Start) c.loop-t.invariant.1.small),
     )
 
 -- what the element was
@@ -110,29 +105,28 @@ value :
     let q = c.right_sum-q.result in
     let k = rule_by c.args.down c.args.even in
     at c.args.sheet.now (c.args.f.signs + m) *ℤ (at c.loop-t.x m -ℤ to_z w64 (of_z w64 q))
-    ≡ undone_at k c.args.sheet.now c.args.f (undone_in_place k c.args.sheet.now c.args.f c.loop-t.t c.args.y) m
+    ≡ undone_at k c.args.sheet.now c.args.f (undone_in_place k c.args.sheet.now c.args.f c.loop-t.t c.args.x.now) m
 unfolding undone_at
-value c = rw (back w64 _ c.right_sum-q.type_inv ∙ c.right_sum-q.ensures, c.loop-t.invariant.3.is)
+value c = rw (back w64 _ c.right_sum-q.type_inv ∙ c.right_sum-q.ensures, c.loop-t.invariant.1.is)
 
-pub returns-then-not-undo_at : goal.returns-then-not-undo_at
-returns-then-not-undo_at c =
-    let here = goal.at.returns-then-not-undo_at c in
-    filled-refused (fills here.Start) (turn here.In-loop-t) (value here.After-undo_at) c.undo_at.ensures
-    (c.if-not-undo_at.true)
+pub returns-in_err-undo_at : goal.returns-in_err-undo_at
+returns-in_err-undo_at c =
+    let here = goal.at.returns-in_err-undo_at c in
+    refuses c.from_residual.result _ c.from_residual.ensures.1
+    (filled-refused (fills here.Start) c.loop-t-test.true (value here.After-undo_at) c.undo_at.ensures
+    (ap is_ok c.in_err-undo_at.was))
 
 pub loop-t-preserved : goal.loop-t-preserved
 unfolding in_place
 loop-t-preserved c =
     let here = goal.at.loop-t-preserved c in (
-      omega arith,
-      c.loop-t.invariant.1,
       let e = place here.In-loop-t in
           let z : c.args.f.order - (c.loop-t.t + 1) ≡ c.args.f.order - 1 - c.loop-t.t = omega arith in rw z
           (omega arith),
-      filled_next (fills here.Start) (turn here.In-loop-t) (value here.After-undo_at) c.undo_at.ensures c.loop-t.invariant.3
-          (c.if-not-undo_at.false),
+      filled_next (fills here.Start) c.loop-t-test.true (value here.After-undo_at) c.undo_at.ensures c.loop-t.invariant.1
+          (ap is_ok c.in_ok-undo_at.was),
     )
 
 pub returns : goal.returns
 returns c =
-    filled-done (fills (goal.at.returns c).Start) (omega (arith, c.loop-t.invariant.1)) c.loop-t.invariant.3
+    filled-done (fills (goal.at.returns c).Start) (omega arith) c.loop-t.invariant.1

@@ -1,5 +1,5 @@
 -- A permutation and a factor with weights are each the document's stage (`moves-are`; `apply-is`, `undo-is`, `allow-is`).
-use Rattle.std.proofs.Common.{rules, ◌≢◌, ◌≡◌, ◌∙◌, arith, length}
+use Rattle.std.proofs.Common.{rules, refl, ◌≢◌, ◌≡◌, ◌∙◌, arith, length}
 use Rattle.factor.specs.LayoutInSheet.{in-sheet, moves, kind-yes, kind-no, row_inside}
 use Rattle.factor.specs.Layouts.{layout_by, layout_at}
 use Rattle.factor.specs.MovedInPlace.{front-moved, moved-bounded}
@@ -40,14 +40,15 @@ returns-then-is_move c =
     (moves-are _ _ _ _ (yes-kind (goal.at.returns-then-is_move c).Then-is_move) c.args.run.task _)
     (moved-bounded (is_inverse c.args.run.task) c.args.n _ c.requires.3)
 
-pub apply_weights-requires : goal.apply_weights-requires
+pub apply_weights-end-requires : goal.apply_weights-end-requires
 unfolding limit_of layout_at layout_by
-apply_weights-requires c =
+apply_weights-end-requires c =
     rw c.layout_at-f.ensures (
-      in-sheet c.requires.1 c.requires.2 (no_kind (goal.at.apply_weights-requires c).Else-is_move),
-      no_kind (goal.at.apply_weights-requires c).Else-is_move,
+      in-sheet c.requires.1 c.requires.2 (no_kind (goal.at.apply_weights-end-requires c).Else-is_move),
+      no_kind (goal.at.apply_weights-end-requires c).Else-is_move,
       rw c.in-Forward.is at
           c.requires.3,
+      refl,
     )
 
 pub returns-in-Forward : goal.returns-in-Forward
@@ -61,14 +62,14 @@ returns-in-Forward c =
       by_tests c.args.run.rule,
       apply-is c.args.run.rule _ _ _ c.requires.2 (no_kind (goal.at.returns-in-Forward c).Else-is_move) c.args.x,
     )
-    at c.apply_weights.ensures)
+    at c.apply_weights-end.ensures)
 
-pub undo_weights-requires : goal.undo_weights-requires
+pub undo_weights-end-requires : goal.undo_weights-end-requires
 unfolding limit_of layout_at layout_by
-undo_weights-requires c =
+undo_weights-end-requires c =
     rw c.layout_at-f.ensures (
-      in-sheet c.requires.1 c.requires.2 (no_kind (goal.at.undo_weights-requires c).Else-is_move),
-      no_kind (goal.at.undo_weights-requires c).Else-is_move,
+      in-sheet c.requires.1 c.requires.2 (no_kind (goal.at.undo_weights-end-requires c).Else-is_move),
+      no_kind (goal.at.undo_weights-end-requires c).Else-is_move,
       row_inside c.requires.0 c.requires.2,
       rw c.in-Inverse.is at
           c.requires.3,
@@ -87,13 +88,13 @@ returns-in-Inverse c =
       undo-is c.args.run.rule _ _ _ c.requires.2 (no_kind here.Else-is_move) c.args.x
           (let o = c.requires.1 in omega (arith, len here.Start)) (row_inside c.requires.0 c.requires.2),
     )
-    at c.undo_weights.ensures)
+    at c.undo_weights-end.ensures)
 
-pub allow_weights-requires : goal.allow_weights-requires
+pub allow_weights-end-requires : goal.allow_weights-end-requires
 unfolding limit_of
-allow_weights-requires c =
+allow_weights-end-requires c =
     rw c.layout_at-f.ensures (
-      in-sheet c.requires.1 c.requires.2 (no_kind (goal.at.allow_weights-requires c).Else-is_move),
+      in-sheet c.requires.1 c.requires.2 (no_kind (goal.at.allow_weights-end-requires c).Else-is_move),
       rw c.in-Allowance.is at
           c.requires.3,
     )
@@ -104,4 +105,4 @@ returns-in-Allowance c =
     let here = goal.at.returns-in-Allowance c in
     rw c.in-Allowance.is
     (rw (c.layout_at-f.ensures, allow-is c.args.run.rule _ _ _ c.requires.2 (no_kind here.Else-is_move) c.args.x) at
-    c.allow_weights.ensures)
+    c.allow_weights-end.ensures)

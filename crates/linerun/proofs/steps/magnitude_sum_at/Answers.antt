@@ -30,13 +30,13 @@ with_term-sum-requires c =
     let l = c.loop-j in
     let a = magnitude-within c.requires.0 l.j c.loop-j-test.true in
     let x = c.requires.1.small c.column_of.result in
-    let t = magnitudes-within c.requires.0 l.j c.requires.1 l.invariant.0 in
-    rw (l.invariant.1, value (goal.at.with_term-sum-requires c).After-magnitude, reads w32 x tt)
+    let t = magnitudes-within c.requires.0 l.j c.requires.1 (omega arith) in
+    rw (l.invariant, value (goal.at.with_term-sum-requires c).After-magnitude, reads w32 x tt)
     (fits a tt, fits x tt, fits (within-* a x) tt, fits (within-+ t (within-* a x)) tt)
 
 pub returns : goal.returns
 returns c =
     let l = c.loop-j in
     let e : l.j ≡ c.args.r.left + c.args.r.right = omega arith in
-    rw (l.invariant.1, e)
+    rw (l.invariant, e)
     (along-columns c.args.r c.args.m (magnitude_at c.args.sheet.now) c.args.b.now)

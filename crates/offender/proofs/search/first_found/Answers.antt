@@ -1,6 +1,5 @@
 -- The search passed the turns before t (`Passed`).
 use Rattle.std.proofs.Common.{◌≡◌, sym, ℕ, ◌<◌, arith}
-use borrow.Author.Tests.{not-true}
 use Rattle.offender.specs.RefusedStages.{cells, turns, turn_of}
 use Rattle.offender.specs.Search.{searched, turns-grow, found-whole, passed-whole, step-stops}
 use Rattle.offender.proofs.search.first_found.Goals as goal
@@ -10,16 +9,16 @@ use Rattle.offender.proofs.search.first_found.Goals.{Start}
 abbrev ranks : Start → ℕ → ℕ
 ranks s k = turn_of s.args.back s.args.q s.args.col.now s.args.row.now k
 
-pub returns-then-not-s : goal.returns-then-not-s
-returns-then-not-s c =
-    let b : c.loop-t.t < turns c.args.back c.args.q = let h = c.loop-t-test.true in omega (arith, c.loop-t.invariant.1) in
+pub returns-in-Some : goal.returns-in-Some
+returns-in-Some c =
+    let b : c.loop-t.t < turns c.args.back c.args.q = let h = c.loop-t-test.true in omega (arith, c.loop-t.invariant.0) in
     sym
     (found-whole
-    (step-stops (turns-grow (cells c.args.q) (ranks (goal.at.returns-then-not-s c).Start)) c.loop-t.t (turns c.args.back c.args.q) b c.loop-t.invariant.2
-    (c.look_in_turn-s.ensures.stops (not-true _ c.if-not-s.true))))
+    (step-stops (turns-grow (cells c.args.q) (ranks (goal.at.returns-in-Some c).Start)) c.loop-t.t (turns c.args.back c.args.q) b c.loop-t.invariant.1
+    c.in-Some.ensures))
 
 pub returns : goal.returns
 unfolding searched
 returns c =
-    let e : c.loop-t.t ≡ turns c.args.back c.args.q = omega (arith, c.loop-t.invariant.1) in
-    sym (passed-whole (rw e at c.loop-t.invariant.2))
+    let e : c.loop-t.t ≡ turns c.args.back c.args.q = omega (arith, c.loop-t.invariant.0) in
+    sym (passed-whole (rw e at c.loop-t.invariant.1))

@@ -22,8 +22,14 @@ returns-then-back c =
     rw (here (goal.at.returns-then-back c).Else-turn_at-t, c.if-back.true)
     (went-undone _ _ _ _ _ c.requires.0.small (rw (v, c.if-back.true) at c.keep.ensures))
 
-pub returns : goal.returns
-returns c =
-    let v = value (goal.at.returns c).After-element_at-z in
-    rw (here (goal.at.returns c).Else-turn_at-t, c.if-back.false)
-    (went-applied _ _ _ _ _ c.requires.0.small (rw (v, c.if-back.false) at c.is_within.ensures))
+pub returns-then-is_within : goal.returns-then-is_within
+returns-then-is_within c =
+    let v = value (goal.at.returns-then-is_within c).After-element_at-z in
+    rw (here (goal.at.returns-then-is_within c).Else-turn_at-t, c.if-back.false)
+    (went-applied _ _ _ _ _ c.requires.0.small (sym c.if-is_within.true ∙ (rw (v, c.if-back.false) at c.is_within.ensures)))
+
+pub returns-else-is_within : goal.returns-else-is_within
+returns-else-is_within c =
+    let v = value (goal.at.returns-else-is_within c).After-element_at-z in
+    rw (here (goal.at.returns-else-is_within c).Else-turn_at-t, c.if-back.false)
+    (went-applied _ _ _ _ _ c.requires.0.small (sym c.if-is_within.false ∙ (rw (v, c.if-back.false) at c.is_within.ensures)))

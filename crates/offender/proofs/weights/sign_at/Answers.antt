@@ -3,7 +3,7 @@ use Rattle.std.proofs.Common.{◌≡◌, ◌∙◌, ◌*ℤ◌, w32, to_z, of_z}
 use Rattle.offender.specs.RefusedBounds.{first, in_row_lem, in_spot, sign-one}
 use Rattle.offender.specs.RefusedStages.{sign_by, sign_of}
 use Rattle.rules.specs.Shapes.{joint_sign}
-use Rattle.whole.specs.Machine.{fits, back, sign-within}
+use Rattle.whole.specs.Machine.{fits, reads, back, sign-within}
 use Rattle.offender.proofs.weights.sign_at.Goals as goal
 use Rattle.offender.proofs.weights.sign_at.Goals.{After-sign_of-in-Joint}
 
@@ -22,9 +22,15 @@ both c =
       c.in-Joint.is,
     )
 
-pub both_signs-requires : goal.both_signs-requires
-both_signs-requires c =
-    rw (both (goal.at.both_signs-requires c).After-sign_of-in-Joint) (fits (sign-within (sign-one c.requires.0 c.args.e c.requires.1)) tt)
+pub overflow_mul-result : goal.overflow_mul-result
+overflow_mul-result c =
+    rw (both (goal.at.overflow_mul-result c).After-sign_of-in-Joint)
+    (fits (sign-within (sign-one c.requires.0 c.args.e c.requires.1)) tt)
+
+pub returns-in-Joint : goal.returns-in-Joint
+returns-in-Joint c =
+    rw (both (goal.at.returns-in-Joint c).After-sign_of-in-Joint)
+    (reads w32 (sign-within (sign-one c.requires.0 c.args.e c.requires.1)) tt)
 
 pub sign_of-requires-in-Pass : goal.sign_of-requires-in-Pass
 sign_of-requires-in-Pass c =

@@ -3,7 +3,7 @@ use Rattle.std.proofs.Common.{◌≡◌, ◌∙◌, ◌*ℤ◌, w64, to_z, of_z}
 use Rattle.offender.specs.RefusedBounds.{first, in_row_lem, in-pass, weight-small}
 use Rattle.offender.specs.RefusedStages.{weight_by, weight_of}
 use Rattle.rules.specs.Shapes.{joint_weight}
-use Rattle.whole.specs.Machine.{fits, back}
+use Rattle.whole.specs.Machine.{fits, reads, back}
 use Rattle.offender.proofs.weights.weight_at.Goals as goal
 use Rattle.offender.proofs.weights.weight_at.Goals.{After-matrix_at-in-Joint}
 
@@ -23,9 +23,15 @@ both c =
       c.in-Joint.is,
     )
 
-pub product-requires : goal.product-requires
-product-requires c =
-    rw (both (goal.at.product-requires c).After-matrix_at-in-Joint) (fits (weight-small c.requires.0 c.args.e c.args.k c.requires.1 c.requires.2) tt)
+pub overflow_mul-result : goal.overflow_mul-result
+overflow_mul-result c =
+    rw (both (goal.at.overflow_mul-result c).After-matrix_at-in-Joint)
+    (fits (weight-small c.requires.0 c.args.e c.args.k c.requires.1 c.requires.2) tt)
+
+pub returns-in-Joint : goal.returns-in-Joint
+returns-in-Joint c =
+    rw (both (goal.at.returns-in-Joint c).After-matrix_at-in-Joint)
+    (reads w64 (weight-small c.requires.0 c.args.e c.args.k c.requires.1 c.requires.2) tt)
 
 pub pass_weight-requires : goal.pass_weight-requires
 pass_weight-requires c =

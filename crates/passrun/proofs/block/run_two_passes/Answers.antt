@@ -1,78 +1,90 @@
 -- The first pass; refused there (`ended-first`), or through the second (`ended-second`).
-use Rattle.std.proofs.Common.{false, ◌≡◌, refl, sym, ap, ◌∙◌, le_refl, arith, ℕ, ◌+◌}
-use borrow.Author.Tests.{not-true, not-false}
-use Rattle.factor.specs.declared.run.Outcome.{Outcome}
-use Rattle.laws.specs.Accepted.{accepted-order, accepted-count, order-counts, count-counts}
+use Rattle.std.proofs.Common.{rules, true, false, ◌≡◌, Result, Ok, Err, refl, sym, ap, ◌∙◌, le_refl, arith, ℕ, ◌+◌, ◌<◌}
+use Rattle.std.proofs.iter.Serving.{serving}
+use Rattle.std.specs.Result.{is_ok}
+use Rattle.factor.specs.Outcomes.{Outcome, outcome_of}
+use Rattle.factor.specs.declared.run.Stopped.{Stopped}
+use Rattle.laws.specs.Accepted.{accepted-order, accepted-count}
+use Rattle.laws.specs.Results.{passed}
 use Rattle.laws.specs.Tests.{apart}
 use Rattle.passrun.specs.BlockRuns.{OneDone}
-use Rattle.passrun.specs.EndLaws.{TwoEnded, first-asks, ended-second, one-stages, turned-stages}
+use Rattle.passrun.specs.EndLaws.{TwoEnded, first-asks, ended-first, ended-second, one-stages, turned-stages}
 use Rattle.passrun.specs.OneLaws.{one-done}
 use Rattle.rules.specs.Numbers.{count}
 use Rattle.passrun.proofs.block.run_two_passes.Goals as goal
-use Rattle.passrun.proofs.block.run_two_passes.Goals.{After-run_one_pass-r, After-run_turned-s}
+use Rattle.passrun.proofs.block.run_two_passes.Goals.{After-run_turned, In_ok-run_one_pass}
 
-pub count_at-k-requires : goal.count_at-k-requires
-count_at-k-requires c = count-counts c.requires.0.one
-
-pub count_at-requires : goal.count_at-requires
-count_at-requires c = order-counts c.requires.0.next
-
-pub run_one_pass-r-requires : goal.run_one_pass-r-requires
-run_one_pass-r-requires c = (
-  rw c.count_at.ensures (first-asks c.args.columns c.args.run c.requires.0),
-  rw c.count_at-k.ensures (le_refl (count c.args.first.now 1)),
+pub run_one_pass-requires : goal.run_one_pass-requires
+run_one_pass-requires c = (
+  rw c.order.ensures (first-asks c.args.columns c.args.run c.requires.0 c.args.second.now.faultless),
+  rw c.many-k.ensures (le_refl (count c.args.first.now.numbers.now 1)),
   c.requires.1,
 )
 
-ended : (r : After-run_one_pass-r) → let a = r.args in
-    OneDone a.columns a.run a.first.now (count a.second.now 0) a.x.now (count a.first.now 1)
-    r.run_one_pass-r.result r.run_one_pass-r.new.b
-ended r = one-stages r.count_at.ensures r.count_at-k.ensures r.run_one_pass-r.ensures
-
-pub count_at-requires-2 : goal.count_at-requires-2
-count_at-requires-2 c = order-counts c.requires.0.one
-
-pub count_at-requires-3 : goal.count_at-requires-3
-count_at-requires-3 c = count-counts c.requires.0.next
+pub returns-in_err-run_one_pass : goal.returns-in_err-run_one_pass
+returns-in_err-run_one_pass c =
+    rw (passed c.from_residual.ensures.1)
+    (ended-first c.args.columns c.args.run c.requires.0 refl
+    (one-stages c.order.ensures c.many-k.ensures c.in_err-run_one_pass.ensures))
 
 -- the first pass is done
-pub run_turned-s-requires : goal.run_turned-s-requires
-run_turned-s-requires c =
-    let p = c.requires.0 in
-    let e = ended (goal.at.run_turned-s-requires c).After-run_one_pass-r in (
-      p.next,
-      p.nexts,
-      rw c.count_at-2.ensures (accepted-order p.one).most,
-      rw c.count_at-3.ensures (le_refl (count c.args.second.now 1)),
-      e.small (not-false _ c.if-not-r.false),
+ended : (c : In_ok-run_one_pass) → let a = c.args in
+    OneDone a.columns a.run a.first.now.numbers.now (count a.second.now.numbers.now 0) a.x.now (count a.first.now.numbers.now 1)
+    (record { ok = true; stage = 0 }) c.run_one_pass.new.b
+ended c = one-stages c.order.ensures c.many-k.ensures c.in_ok-run_one_pass.ensures
+
+pub run_turned-requires : goal.run_turned-requires
+run_turned-requires c =
+    let e = ended (goal.at.run_turned-requires c).In_ok-run_one_pass in (
+      rw c.order-2.ensures (accepted-order c.args.first.now.faultless).most,
+      rw c.many.ensures (le_refl (count c.args.second.now.numbers.now 1)),
+      e.small refl,
       e.wide,
     )
 
 -- both passes
-both : (c : After-run_turned-s) → let a = c.args in
-    (last : Outcome) → last.ok ≡ c.run_turned-s.result.ok →
-    (c.run_turned-s.result.ok ≡ false → last.stage ≡ count a.first.now 1 + c.run_turned-s.result.stage) →
-    TwoEnded a.columns a.run a.first.now a.second.now a.x.now last c.run_turned-s.new.b
+both : (c : After-run_turned) → let a = c.args in
+    (last : Outcome) → last.ok ≡ (outcome_of c.run_turned.result).ok →
+    ((outcome_of c.run_turned.result).ok ≡ false →
+    last.stage ≡ count a.first.now.numbers.now 1 + (outcome_of c.run_turned.result).stage) →
+    TwoEnded a.columns a.run a.first.now.numbers.now a.second.now.numbers.now a.x.now last c.run_turned.new.b
 both c last o z =
-    let e = one-stages c.count_at.ensures c.count_at-k.ensures c.run_one_pass-r.ensures in
-    let k = not-false _ c.if-not-r.false in
-    ended-second c.args.columns c.args.run c.requires.0 (one-done e refl k) (e.small k)
-    (turned-stages c.count_at-2.ensures c.count_at-3.ensures c.run_turned-s.ensures) refl {last = last} o z
+    let e = one-stages c.order.ensures c.many-k.ensures c.in_ok-run_one_pass.ensures in
+    ended-second c.args.columns c.args.run c.requires.0 (one-done e refl refl) (e.small refl)
+    (turned-stages c.order-2.ensures c.many.ensures c.run_turned.ensures) refl {last = last} o z
 
-pub overflow_add-result : goal.overflow_add-result
-overflow_add-result c =
-    let p = c.requires.0 in
-    let last : Outcome = record { ok = false; stage = count c.args.first.now 1 + c.run_turned-s.result.stage } in
-    let b = both (goal.at.overflow_add-result c).After-run_turned-s last (sym (not-true _ c.if-not-s.true)) (λ e. refl) in
+-- no more stages than both sheets have
+few : (c : After-run_turned) (e : Stopped) → c.run_turned.result ≡ Err e → c.many-k.result + e.stage < 18446744073709551616
+few c e q =
+    let last : Outcome = record { ok = false; stage = count c.args.first.now.numbers.now 1 + e.stage } in
+    let b = both c last (rw q) (λ w. rw q) in
     let m = (b.stops refl).most in
-    let u = (accepted-count p.one).most in
-    let v = (accepted-count p.next).most in
-    omega (arith, c.count_at-k.ensures)
+    let u = (accepted-count c.args.first.now.faultless).most in
+    let v = (accepted-count c.args.second.now.faultless).most in
+    omega (arith, c.many-k.ensures)
 
-pub returns-then-not-s : goal.returns-then-not-s
-returns-then-not-s c =
-    both (goal.at.returns-then-not-s c).After-run_turned-s _ (sym (not-true _ c.if-not-s.true))
-    (λ e. ap (λ (k : ℕ). k + c.run_turned-s.result.stage) c.count_at-k.ensures)
+pub map_err-requires : goal.map_err-requires
+map_err-requires c =
+    let small = few (goal.at.map_err-requires c).After-run_turned in
+    grind (serving, arith, small)
+
+-- an end that is counted from k stages before
+ok_of : (r : Result (Unit {0}) Stopped) → (outcome_of r).ok ≡ is_ok r
+ok_of (Ok x) = refl
+ok_of (Err e) = refl
+
+stage_later : (r q : Result (Unit {0}) Stopped) (k : ℕ) →
+    ((e : Stopped) → r ≡ Err e → q ≡ Err (record { stage = k + e.stage })) → (outcome_of r).ok ≡ false →
+    (outcome_of q).stage ≡ k + (outcome_of r).stage
+stage_later (Ok x) q k h n = apart n
+stage_later (Err e) q k h n = ap (λ (z : Result (Unit {0}) Stopped). (outcome_of z).stage) (h e refl)
 
 pub returns : goal.returns
-returns c = both (goal.at.returns c).After-run_turned-s _ refl (λ e. apart (sym (not-false _ c.if-not-s.false) ∙ e))
+returns c =
+    let moved : (e : Stopped) → c.run_turned.result ≡ Err e →
+    c.map_err.result ≡ Err (record { stage = c.many-k.result + e.stage }) = λ e q. search rules in
+    let r = c.run_turned.result in
+    both (goal.at.returns c).After-run_turned (outcome_of c.map_err.result)
+    (ok_of c.map_err.result ∙ c.map_err.ensures.variant ∙ sym (ok_of c.run_turned.result))
+    (λ n. stage_later c.run_turned.result c.map_err.result c.many-k.result moved n
+    ∙ ap (λ (k : ℕ). k + (outcome_of r).stage) c.many-k.ensures)

@@ -7,7 +7,7 @@ pub exchange-requires : goal.exchange-requires
 exchange-requires c =
     let p = c.requires in
     let t = c.loop-i-test.true in (
-      omega (arith, p.0, p.1, c.loop-i.invariant.2),
-      omega (arith, c.smaller.ensures),
-      ap length c.loop-i.invariant.3 ∙ length-turning _ c.loop-i.i c.args.x.now ∙ p.2,
+      omega (arith, p.0, p.1, c.max-i-end.ensures),
+      omega (arith, c.min.ensures),
+      ap length c.loop-i.invariant ∙ length-turning _ c.loop-i.i c.args.x.now ∙ p.2,
     )

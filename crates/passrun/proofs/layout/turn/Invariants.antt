@@ -1,9 +1,7 @@
 -- The first i rows and columns have changed places, as far as the smaller order.
-use Rattle.std.proofs.Common.{◌≡◌, ◌≤◌, min, max}
+use Rattle.std.proofs.Common.{◌≡◌}
 use Rattle.passrun.specs.Layout.{turning}
 use Rattle.passrun.proofs.layout.turn.Given as goal
 
 abbrev pub invariant-loop-i : goal.invariant-loop-i
-invariant-loop-i l =
-    (l.i ≤ l.all) × (l.few ≡ min l.n l.m) × (l.all ≡ max l.n l.m)
-    × (l.x ≡ turning l.few l.i l.initial.x)
+invariant-loop-i l = l.x ≡ turning l.few l.i l.initial.x

@@ -1,5 +1,6 @@
 -- The copy stays the old line. The first m of its allowances stand in the block, and are in bound.
-use Rattle.std.proofs.Common.{rules, ◌≡◌, ◌∙◌, ℕ, arith, ℤ, length, w64, to_z, of_z}
+use Rattle.std.proofs.Common.{rules, ◌≡◌, refl, ◌∙◌, ℕ, arith, ℤ, length, w64, to_z, of_z}
+use Rattle.std.proofs.lemmas.Result.{err_from_is_err_and}
 use Rattle.factor.specs.SumBounds.{kept-no}
 use Rattle.linerun.specs.Steps.{allowed_at}
 use Rattle.passstage.specs.FilledLines.{line-filled, line-beyond}
@@ -25,11 +26,13 @@ value c = back w64 _ c.allowed_at-z.type_inv ∙ c.allowed_at-z.ensures ∙ rw c
 length-after : (c : After-keep) → length c.keep.new.x ≡ 256
 length-after c = search rules
 
-pub returns-then-not-keep : goal.returns-then-not-keep
-returns-then-not-keep c =
-    let q = rw (value (goal.at.returns-then-not-keep c).After-allowed_at-z) at c.keep.ensures in
-    line-beyond c.args.l (G (goal.at.returns-then-not-keep c).Start) c.args.x.now c.requires.1 c.requires.3 c.requires.0.order
-    c.loop-m-test.true (kept-no q c.if-not-keep.true) (length-after (goal.at.returns-then-not-keep c).After-keep)
+pub returns-in_err-keep : goal.returns-in_err-keep
+returns-in_err-keep c =
+    let p = err_from_is_err_and c.from_residual.result c.from_residual.ensures.1 in
+    let q = rw (value (goal.at.returns-in_err-keep c).After-allowed_at-z) at c.in_err-keep.ensures in
+    rw p.1
+    (line-beyond c.args.l (G (goal.at.returns-in_err-keep c).Start) c.args.x.now c.requires.1 c.requires.3 c.requires.0.order
+    c.loop-m-test.true (kept-no q refl) (length-after (goal.at.returns-in_err-keep c).After-keep))
 
 pub returns : goal.returns
 returns c =

@@ -14,7 +14,7 @@ returns-then-back c =
     rw (to_z-of_z c.ranges.q, to_z-of_z c.ranges.x, reads w32 (within-- c.requires.1 c.requires.2) tt, c.if-back.true)
     (made-back c.args.x c.args.q c.requires.0 (rw (to_z-of_z c.ranges.d) at c.if-d-lt0.false))
 
-pub returns : goal.returns
-returns c =
+pub returns-else-back : goal.returns-else-back
+returns-else-back c =
     rw (to_z-of_z c.ranges.q, to_z-of_z c.ranges.x, reads w32 (within-+ c.requires.1 c.requires.2) tt, c.if-back.false)
     (made-forth c.args.x c.args.q c.requires.0 (rw (to_z-of_z c.ranges.d) at c.if-d-lt0.false))

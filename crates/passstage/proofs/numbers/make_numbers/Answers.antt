@@ -63,9 +63,18 @@ loop-l-preserved c =
       rw (to_z-of_z c.ranges.d) (judged-next l.l (rw (to_z-of_z c.ranges.d) at l.invariant.2) told),
     )
 
-pub returns : goal.returns
-returns c =
+pub returns-then-fine : goal.returns-then-fine
+returns-then-fine c =
     let l = c.loop-l in
     let e : l.l ≡ c.args.w = omega arith in
-    row-judged c.requires.0.long c.requires.0.small (rw (e, to_z-of_z c.ranges.d) at l.invariant.1)
-    (rw (e, to_z-of_z c.ranges.d) at l.invariant.2)
+    rw c.if-fine.true at
+    (row-judged c.requires.0.long c.requires.0.small (rw (e, to_z-of_z c.ranges.d) at l.invariant.1)
+    (rw (e, to_z-of_z c.ranges.d) at l.invariant.2))
+
+pub returns-else-fine : goal.returns-else-fine
+returns-else-fine c =
+    let l = c.loop-l in
+    let e : l.l ≡ c.args.w = omega arith in
+    rw c.if-fine.false at
+    (row-judged c.requires.0.long c.requires.0.small (rw (e, to_z-of_z c.ranges.d) at l.invariant.1)
+    (rw (e, to_z-of_z c.ranges.d) at l.invariant.2))

@@ -17,11 +17,11 @@ sign s = reads w32 (sign-within (s.requires.0.sign s.args.m s.requires.1)) tt
 abbrev K : Start → Rule
 K s = rule_by s.args.down s.args.even
 
-pub returns-then-left-right-eq0 : goal.returns-then-left-right-eq0
-returns-then-left-right-eq0 c =
-    let s = (goal.at.returns-then-left-right-eq0 c).Start in
+pub returns-then-r-eq0 : goal.returns-then-r-eq0
+returns-then-r-eq0 c =
+    let s = (goal.at.returns-then-r-eq0 c).Start in
     row-turned c.args.back (K s) c.requires.0 c.args.m c.requires.1 c.requires.3 c.args.w c.requires.2 c.requires.4
-    (rw c.row_of-r.ensures at c.if-left-right-eq0.true) (rw (sign s) at c.turn_row.ensures)
+    (rw c.row_of-r.ensures at c.if-r-eq0.true) (rw (sign s) at c.turn_row.ensures)
 
 pub add_columns-requires : goal.add_columns-requires
 add_columns-requires c = rw c.row_of-r.ensures (left-parting c.requires.0 c.args.m c.requires.1 c.requires.3)

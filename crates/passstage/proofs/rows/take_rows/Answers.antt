@@ -1,5 +1,6 @@
 -- The lines are as t turns leave them (`Turns`).
-use Rattle.std.proofs.Common.{arith}
+use Rattle.std.proofs.Common.{arith, refl}
+use Rattle.std.proofs.lemmas.Result.{err_from_is_err_and}
 use Rattle.factor.specs.Rounding.{rule_by}
 use Rattle.passstage.specs.RowLaws.{turn-permutes, no-turn, turns_next, turns-stop}
 use Rattle.rules.specs.declared.Rule.{Rule}
@@ -23,16 +24,16 @@ take_row-requires c =
       u.long,
     )
 
-pub returns-then-not-take_row : goal.returns-then-not-take_row
-returns-then-not-take_row c =
-    let o = c.if-not-take_row.true in
-    turns-stop c.args.back (K (goal.at.returns-then-not-take_row c).Start) c.requires.0 c.requires.1 c.requires.2 c.loop-t-test.true c.loop-t.invariant.1
-    (rw c.row_in_turn-m.ensures at c.take_row.ensures) o
+pub returns-in_err-take_row : goal.returns-in_err-take_row
+returns-in_err-take_row c =
+    let p = err_from_is_err_and c.from_residual.result c.from_residual.ensures.1 in
+    rw p.1
+    (turns-stop c.args.back (K (goal.at.returns-in_err-take_row c).Start) c.requires.0 c.requires.1 c.requires.2 c.loop-t-test.true
+    c.loop-t.invariant.1 (rw c.row_in_turn-m.ensures at c.in_err-take_row.ensures) refl)
 
 pub loop-t-preserved : goal.loop-t-preserved
-loop-t-preserved c =
-    let o = c.if-not-take_row.false in (
-      omega arith,
-      turns_next c.args.back (K (goal.at.loop-t-preserved c).Start) c.requires.0 c.requires.1 c.requires.2 c.loop-t-test.true c.loop-t.invariant.1
-          (rw c.row_in_turn-m.ensures at c.take_row.ensures) o,
-    )
+loop-t-preserved c = (
+  omega arith,
+  turns_next c.args.back (K (goal.at.loop-t-preserved c).Start) c.requires.0 c.requires.1 c.requires.2 c.loop-t-test.true
+      c.loop-t.invariant.1 (rw c.row_in_turn-m.ensures at c.in_ok-take_row.ensures) refl,
+)

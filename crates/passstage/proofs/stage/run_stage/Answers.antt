@@ -73,7 +73,7 @@ returns c =
     (rw (
       c.layout_at-f.ensures,
       c.is_inverse.ensures,
-      c.is_down-down.ensures,
-      c.is_even-even.ensures,
+      c.is_down.ensures,
+      c.is_even.ensures,
       by_tests c.args.run.rule,
     ) at c.take_rows.ensures)

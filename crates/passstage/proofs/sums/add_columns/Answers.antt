@@ -10,6 +10,6 @@ pub returns-then-w-le8 : goal.returns-then-w-le8
 returns-then-w-le8 c =
     rw (together-8 c.args.w c.if-w-le4.false c.if-w-le8.true) at c.add_entries-then-w-le8.ensures
 
-pub returns : goal.returns
-returns c =
-    rw (together-16 c.args.w c.if-w-le4.false c.if-w-le8.false) at c.add_entries-2.ensures
+pub returns-else-w-le8 : goal.returns-else-w-le8
+returns-else-w-le8 c =
+    rw (together-16 c.args.w c.if-w-le4.false c.if-w-le8.false) at c.add_entries-else-w-le8.ensures

@@ -9,5 +9,5 @@ returns-then-u-lt-GROUP c = rw (spell-1 _ c.if-u-lt-GROUP.true)
 pub returns-then-u-lt-TWO_GROUPS : goal.returns-then-u-lt-TWO_GROUPS
 returns-then-u-lt-TWO_GROUPS c = rw (spell-2 c.args.u c.if-u-lt-GROUP.false (omega arith))
 
-pub returns : goal.returns
-returns c = rw (spell-3 c.args.u c.if-u-lt-GROUP.false (omega arith))
+pub returns-else-u-lt-TWO_GROUPS : goal.returns-else-u-lt-TWO_GROUPS
+returns-else-u-lt-TWO_GROUPS c = rw (spell-3 c.args.u c.if-u-lt-GROUP.false (omega arith))

@@ -13,8 +13,8 @@ read-minus n h = to_z-of_z {w = w32} {z = pos 0 -ℤ pos n} (simp lia (omega ari
 pub returns-then-u-eq0 : goal.returns-then-u-eq0
 returns-then-u-eq0 c = read_pos (c.args.u / 2) (omega arith) ∙ sym (value-even c.args.u c.if-u-eq0.true)
 
-pub returns : goal.returns
-returns c =
+pub returns-else-u-eq0 : goal.returns-else-u-eq0
+returns-else-u-eq0 c =
     let u = c.args.u in
     let l : u / 2 < 2 ^ 31 = omega arith in
     rw (

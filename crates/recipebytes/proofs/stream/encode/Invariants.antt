@@ -1,7 +1,6 @@
--- The loop: `Encoded`, that the first k numbers are written, up to place i. A turn is `encode-on`.
-use Rattle.std.proofs.Common.{◌≤◌, length}
+-- The loop: `Encoded`, that the first numbers are written, up to place i. A turn is `encode-on`.
 use Rattle.recipebytes.specs.Writing.{Encoded}
 use Rattle.recipebytes.proofs.stream.encode.Given as goal
 
-abbrev pub invariant-loop-k : goal.invariant-loop-k
-invariant-loop-k l = (l.k ≤ length l.sheet) × Encoded l.sheet l.initial.out l.k l.i l.out
+abbrev pub invariant-loop-v : goal.invariant-loop-v
+invariant-loop-v l = Encoded l.sheet l.initial.out l.v-index l.i l.out

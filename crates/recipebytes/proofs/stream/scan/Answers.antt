@@ -1,26 +1,24 @@
--- The loop: `Scanned`, that k numbers stand before place i, and that what is left is to be read from there.
--- A turn is `scan-on`; it ends by `scan-stop`, where no number stands, or by `scan-end`.
-use Rattle.std.proofs.Common.{◌≡◌, subst, ℕ, arith, length}
-use Rattle.recipebytes.specs.Reading.{NumbersEnd, scan-on, scan-stop, scan-end, inside-by}
+-- The loop: `Scanned`, that so many numbers stand before the place, and that what is left is to be read from there. Each number
+-- has a byte at least. A turn is `scan-on`; it ends by `scan-stop`, where no number stands.
+use Rattle.std.proofs.Common.{refl, ◌+◌, ◌≤◌, arith, length}
+use Rattle.recipebytes.specs.Reading.{scan-on, scan-stop, inside-by}
 use Rattle.recipebytes.proofs.stream.scan.Goals as goal
+use Rattle.recipebytes.proofs.stream.scan.Goals.{In-Some}
 
-pub returns-then-r-eq0 : goal.returns-then-r-eq0
-returns-then-r-eq0 c =
-    scan-stop c.read_number-r.ensures c.if-r-eq0.true c.loop-k.invariant.1
+inside : (c : In-Some) → c.loop-r.place + c.in-Some.r.size ≤ length c.args.bytes.now
+inside c = inside-by c.args.bytes.now c.loop-r.place c.in-Some.ensures c.loop-r.invariant.1.inside
 
-pub overflow_add-i : goal.overflow_add-i
-overflow_add-i c =
-    let l = c.loop-k in
-    let h = inside-by c.args.bytes.now l.i c.read_number-r.ensures l.invariant.1.inside in
-    omega arith
+pub overflow_add-place : goal.overflow_add-place
+overflow_add-place c = omega (arith, inside (goal.at.overflow_add-place c).In-Some)
 
-pub loop-k-preserved : goal.loop-k-preserved
-loop-k-preserved c =
-    (omega arith, scan-on c.read_number-r.ensures (omega arith) c.if-r-eq0.false c.loop-k.invariant.1)
+pub loop-r-smaller : goal.loop-r-smaller
+loop-r-smaller c = omega (arith, inside (goal.at.loop-r-smaller c).In-Some, c.in-Some.r.some)
+
+pub loop-r-preserved : goal.loop-r-preserved
+loop-r-preserved c =
+    let h = inside (goal.at.loop-r-preserved c).In-Some in
+    let n = c.in-Some.r.some in
+    (omega arith, scan-on c.in-Some.ensures (omega arith) (λ z. omega arith) c.loop-r.invariant.1)
 
 pub returns : goal.returns
-returns c =
-    let l = c.loop-k in
-    let b = c.args.bytes.now in
-    let e : l.k ≡ length b = omega arith in
-    subst (λ (n : ℕ). NumbersEnd b l.i n) e (scan-end (omega arith) l.invariant.1)
+returns c = scan-stop c.in_default.ensures refl c.loop-r.invariant.1

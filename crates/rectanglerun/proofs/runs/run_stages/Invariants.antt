@@ -9,6 +9,7 @@ use Rattle.rectanglerun.proofs.runs.run_stages.Given as goal
 abbrev pub invariant-loop-t : goal.invariant-loop-t
 invariant-loop-t l =
     (l.t ≤ l.to)
-    × ((ran : Ran) → StandsAt l.run l.col l.row ran l.from l.initial.x → StandsAt l.run l.col l.row ran l.t l.x)
+    × ((ran : Ran) → StandsAt l.run l.col.numbers.now l.row.numbers.now ran l.from l.initial.x →
+    StandsAt l.run l.col.numbers.now l.row.numbers.now ran l.t l.x)
     × Bounded (limit_of l.run.task) l.x
     × (length l.x ≡ 256)

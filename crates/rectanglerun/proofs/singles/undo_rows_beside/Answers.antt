@@ -1,8 +1,8 @@
 -- The block has the turns from 0 to s (`turns_more`), and the rows after them ask of it what the first one did.
-use Rattle.std.proofs.Common.{◌≢◌, ◌≡◌, refl, ◌∙◌, ◌-◌, ◌<◌, arith}
-use borrow.Author.Tests.{not-true, not-false}
+use Rattle.std.proofs.Common.{◌≢◌, ◌≡◌, refl, ◌∙◌, ◌-◌, ◌<◌, ap, arith, is_ok}
 use Rattle.factor.specs.Tasks.{limit_of}
 use Rattle.factor.specs.declared.run.Task.TheVariants.{Inverse}
+use Rattle.laws.specs.Results.{passed}
 use Rattle.joint.specs.RowsInPlace.{element_of, row_order}
 use Rattle.rectanglerun.specs.RowsInTurn.{turn_below, still, asks, turns_more, turns-stop}
 use Rattle.rectanglerun.specs.UndoingOrder.{nth_row, single-undone}
@@ -28,20 +28,20 @@ beside c =
     let f = c.args.fa in
     rw c.nth_single-i.ensures (early-undone f.order f.row c.loop-s.s c.requires.0.low1 (early c.before))
 
-pub undo_beside-r-requires : goal.undo_beside-r-requires
+pub undo_beside-requires : goal.undo_beside-requires
 unfolding limit_of
-undo_beside-r-requires c =
+undo_beside-requires c =
     let h = c.loop-s.invariant.1 in
-    let g = goal.at.undo_beside-r-requires c in
+    let g = goal.at.undo_beside-requires c in
     let i = g.After-nth_single-i in
     (asks h (turn_below h (below g.In-loop-s) (turn i)) refl, c.requires.1, beside i, c.requires.2)
 
-pub returns-then-not-r : goal.returns-then-not-r
+pub returns-in_err-undo_beside : goal.returns-in_err-undo_beside
 unfolding limit_of element_of row_order
-returns-then-not-r c =
-    let g = goal.at.returns-then-not-r c in
-    turns-stop c.loop-s.invariant.2 (below g.In-loop-s) (turn g.After-nth_single-i) c.undo_beside-r.ensures
-    (not-true _ c.if-not-r.true)
+returns-in_err-undo_beside c =
+    let g = goal.at.returns-in_err-undo_beside c in
+    turns-stop c.loop-s.invariant.2 (below g.In-loop-s) (turn g.After-nth_single-i) c.undo_beside.ensures
+    (ap is_ok c.in_err-undo_beside.was) (ap is_ok (passed c.from_residual.ensures.1))
 
 pub loop-s-preserved : goal.loop-s-preserved
 unfolding limit_of element_of row_order
@@ -49,8 +49,8 @@ loop-s-preserved c =
     let g = goal.at.loop-s-preserved c in
     let l = c.loop-s in
     let h = l.invariant.1 in
-    let w = c.undo_beside-r.ensures in
-    let o = not-false _ c.if-not-r.false in (
+    let w = c.undo_beside.ensures in
+    let o = ap is_ok c.in_ok-undo_beside.was in (
       omega arith,
       still h (w.through o).1 (w.keeps ∙ h.long),
       turns_more l.invariant.2 (below g.In-loop-s) (turn g.After-nth_single-i) w o,

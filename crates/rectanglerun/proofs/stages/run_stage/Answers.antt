@@ -1,5 +1,5 @@
 -- A pair of permutations and a pair of factors with weights are each the document's stage (`moves-are`, `stage-weighed`).
-use Rattle.std.proofs.Common.{Bool, false, List, ◌≡◌, sym, ap, ap₂, subst, ◌∙◌, ◌*◌, ℤ, length}
+use Rattle.std.proofs.Common.{rules, Bool, refl, false, List, ◌≡◌, sym, ap, ap₂, subst, ◌∙◌, ◌*◌, ℤ, length}
 use Rattle.factor.specs.LayoutInSheet.{moves, move-no, kind-yes}
 use Rattle.factor.specs.Layouts.{layout_by, layout_at, is_move}
 use Rattle.factor.specs.MovedInPlace.{moved-bounded, moved-scattered, length-scattered}
@@ -8,6 +8,7 @@ use Rattle.factor.specs.Steps.{Step, step-moves}
 use Rattle.factor.specs.Tasks.{limit_of, taken_by}
 use Rattle.factor.specs.declared.run.Task.{Task}
 use Rattle.rectanglerun.specs.RowsInTurn.{Weighable, Weighed}
+use Rattle.joint.specs.RowsInPlace.{element_of, row_order}
 use Rattle.rectanglerun.specs.StagesAgree.{moves-are, stage-asks, stage-weighed}
 use Rattle.rules.specs.Factors.{factor_at}
 use Rattle.rules.specs.Numbers.{most_cells, count}
@@ -78,21 +79,35 @@ module _ (w : After-is_even-even) where
         (subst (λ r. Weighed task r w.args.col.now w.layout_at-fa.result w.args.row.now w.layout_at-fb.result
         w.args.x.now ok y) e v)
 
-pub apply_lower_rows-requires : goal.apply_lower_rows-requires
-apply_lower_rows-requires c =
-    (asks (goal.at.apply_lower_rows-requires c).After-is_even-even c.in-Forward.is, c.in-Lower.is)
+pub all_rows-requires-clause-asked : goal.all_rows-requires-clause-asked
+all_rows-requires-clause-asked c = asks (goal.at.all_rows-requires-clause-asked c).After-is_even-even refl
+
+pub all_rows-requires-clause-kind : goal.all_rows-requires-clause-kind
+unfolding limit_of
+all_rows-requires-clause-kind c = let a = c.in-Lower.is in let b = c.in-Forward.is in (λ z. cc, rw b)
+
+pub all_rows-requires-clause-makes : goal.all_rows-requires-clause-makes
+unfolding limit_of element_of row_order
+all_rows-requires-clause-makes c i v r w e = let b = c.in-Forward.is in rw b (search rules)
 
 pub returns-in-Lower : goal.returns-in-Lower
 returns-in-Lower c =
-    told-by (goal.at.returns-in-Lower c).After-is_even-even c.in-Forward.is c.apply_lower_rows.ensures
+    told-by (goal.at.returns-in-Lower c).After-is_even-even refl c.all_rows.ensures
 
-pub apply_upper_rows-requires : goal.apply_upper_rows-requires
-apply_upper_rows-requires c =
-    (asks (goal.at.apply_upper_rows-requires c).After-is_even-even c.in-Forward.is, c.in-Upper.is)
+pub all_rows-requires-in-Upper-clause-asked : goal.all_rows-requires-in-Upper-clause-asked
+all_rows-requires-in-Upper-clause-asked c = asks (goal.at.all_rows-requires-in-Upper-clause-asked c).After-is_even-even refl
+
+pub all_rows-requires-in-Upper-clause-kind : goal.all_rows-requires-in-Upper-clause-kind
+unfolding limit_of
+all_rows-requires-in-Upper-clause-kind c = let a = c.in-Upper.is in let b = c.in-Forward.is in (λ z. cc, rw b)
+
+pub all_rows-requires-in-Upper-clause-makes : goal.all_rows-requires-in-Upper-clause-makes
+unfolding limit_of element_of row_order
+all_rows-requires-in-Upper-clause-makes c i v r w e = let b = c.in-Forward.is in rw b (search rules)
 
 pub returns-in-Upper : goal.returns-in-Upper
 returns-in-Upper c =
-    told-by (goal.at.returns-in-Upper c).After-is_even-even c.in-Forward.is c.apply_upper_rows.ensures
+    told-by (goal.at.returns-in-Upper c).After-is_even-even refl c.all_rows-in-Upper.ensures
 
 pub apply_single_rows-requires : goal.apply_single_rows-requires
 apply_single_rows-requires c =
@@ -106,21 +121,35 @@ pub returns-in-Permutation : goal.returns-in-Permutation
 returns-in-Permutation c =
     absurd (move-no _ (weighs (goal.at.returns-in-Permutation c).After-is_even-even) c.in-Permutation.is)
 
-pub undo_lower_rows-requires : goal.undo_lower_rows-requires
-undo_lower_rows-requires c =
-    (asks (goal.at.undo_lower_rows-requires c).After-is_even-even c.in-Inverse.is, c.in-Lower-kind.is)
+pub all_rows-requires-in-Lower-kind-clause-asked : goal.all_rows-requires-in-Lower-kind-clause-asked
+all_rows-requires-in-Lower-kind-clause-asked c = asks (goal.at.all_rows-requires-in-Lower-kind-clause-asked c).After-is_even-even refl
+
+pub all_rows-requires-in-Lower-kind-clause-kind : goal.all_rows-requires-in-Lower-kind-clause-kind
+unfolding limit_of
+all_rows-requires-in-Lower-kind-clause-kind c = let a = c.in-Lower-kind.is in let b = c.in-Inverse.is in (λ z. cc, rw b)
+
+pub all_rows-requires-in-Lower-kind-clause-makes : goal.all_rows-requires-in-Lower-kind-clause-makes
+unfolding limit_of element_of row_order
+all_rows-requires-in-Lower-kind-clause-makes c i v r w e = let b = c.in-Inverse.is in rw b (search rules)
 
 pub returns-in-Lower-kind : goal.returns-in-Lower-kind
 returns-in-Lower-kind c =
-    told-by (goal.at.returns-in-Lower-kind c).After-is_even-even c.in-Inverse.is c.undo_lower_rows.ensures
+    told-by (goal.at.returns-in-Lower-kind c).After-is_even-even refl c.all_rows-in-Lower-kind.ensures
 
-pub undo_upper_rows-requires : goal.undo_upper_rows-requires
-undo_upper_rows-requires c =
-    (asks (goal.at.undo_upper_rows-requires c).After-is_even-even c.in-Inverse.is, c.in-Upper-kind.is)
+pub all_rows-requires-in-Upper-kind-clause-asked : goal.all_rows-requires-in-Upper-kind-clause-asked
+all_rows-requires-in-Upper-kind-clause-asked c = asks (goal.at.all_rows-requires-in-Upper-kind-clause-asked c).After-is_even-even refl
+
+pub all_rows-requires-in-Upper-kind-clause-kind : goal.all_rows-requires-in-Upper-kind-clause-kind
+unfolding limit_of
+all_rows-requires-in-Upper-kind-clause-kind c = let a = c.in-Upper-kind.is in let b = c.in-Inverse.is in (λ z. cc, rw b)
+
+pub all_rows-requires-in-Upper-kind-clause-makes : goal.all_rows-requires-in-Upper-kind-clause-makes
+unfolding limit_of element_of row_order
+all_rows-requires-in-Upper-kind-clause-makes c i v r w e = let b = c.in-Inverse.is in rw b (search rules)
 
 pub returns-in-Upper-kind : goal.returns-in-Upper-kind
 returns-in-Upper-kind c =
-    told-by (goal.at.returns-in-Upper-kind c).After-is_even-even c.in-Inverse.is c.undo_upper_rows.ensures
+    told-by (goal.at.returns-in-Upper-kind c).After-is_even-even refl c.all_rows-in-Upper-kind.ensures
 
 pub undo_single_rows-requires : goal.undo_single_rows-requires
 undo_single_rows-requires c =

@@ -1,12 +1,13 @@
 -- The number is there, and has no fault. Assumes nothing.
-use Rattle.std.proofs.Common.{sym, ◌∙◌, arith}
-use Rattle.laws.specs.Readers.{one-fine}
+use Rattle.std.proofs.Common.{arith}
+use Rattle.sheetcheck.proofs.Rows.{tested}
 use Rattle.sheetcheck.proofs.quick.end_of_one.Goals as goal
 
 pub returns : goal.returns
-returns c n =
+returns c =
     let a = c.args in
+    let r = c.check_number in
     record {
-      next = (one-fine a.sheet.now a.what a.p (omega arith) (sym c.fault_of.ensures ∙ c.if-fault_of-ne0.false)).next;
+      next = (tested a.sheet.now a.what a.p r.result (omega arith) r.ensures c.in_ok-ok.ensures.value).next;
       room = omega arith;
     }

@@ -1,21 +1,23 @@
--- Invariant: there is room, the first k places were seen, and each of them is marked. Assumes nothing.
-use Rattle.std.proofs.Common.{◌≡◌, sym, ◌∙◌, ◌+◌, ◌<◌, arith, length-set}
+-- Invariant: the first k places were seen, and each of them is marked. Assumes nothing.
+use Rattle.std.proofs.Common.{◌≡◌, ◌∙◌, ◌+◌, ◌<◌, arith, length-set}
 use Rattle.laws.specs.Accepted.{row_is, row_counts}
-use Rattle.laws.specs.Readers.{Seen, one-fine}
+use Rattle.laws.specs.Readers.{Seen}
 use Rattle.rules.specs.declared.Item.TheVariants.{Row}
 use Rattle.sheetcheck.proofs.Marks.{marked_more}
-use Rattle.sheetcheck.proofs.Rows.{saw-all}
+use Rattle.sheetcheck.proofs.Rows.{tested, saw-all}
 use Rattle.sheetcheck.proofs.quick.end_of_places.Goals as goal
-use Rattle.sheetcheck.proofs.quick.end_of_places.Goals.{After-count_at-place, Else-fault_of-ne0}
+use Rattle.sheetcheck.proofs.quick.end_of_places.Goals.{After-count_at-place, In_ok-ok}
 
 -- a number of 0 to n - 1
 row :
-    (c : Else-fault_of-ne0) →
+    (c : In_ok-ok) →
     let a = c.args in Seen a.sheet.now (Row a.n) (a.p + c.loop-k.k)
-row c = one-fine _ _ _ (omega arith) (sym c.fault_of.ensures ∙ c.if-fault_of-ne0.false)
+row c =
+    let r = c.check_number in
+    tested _ _ _ r.result (omega (arith, c.in_ok-end.ensures)) r.ensures c.in_ok-ok.ensures.value
 
 pub count_at-place-requires : goal.count_at-place-requires
-count_at-place-requires c = row_counts (row (goal.at.count_at-place-requires c).Else-fault_of-ne0)
+count_at-place-requires c = row_counts (row (goal.at.count_at-place-requires c).In_ok-ok)
 
 low : (c : After-count_at-place) → c.count_at-place.result < 16
 low c = let b = (row_is (row c.before)).1 in omega (arith, c.count_at-place.ensures)
@@ -31,12 +33,13 @@ loop-k-preserved c =
     let a = c.args in
     let e = c.count_at-place.ensures in
     let free = rw e at c.if-used-place.false in
-    let r = row (goal.at.loop-k-preserved c).Else-fault_of-ne0 in
-    let h = marked_more a.p c.loop-k.k (omega arith) r free c.loop-k.invariant.2 in
-    (omega arith, c.loop-k.invariant.1, rw e h, length-set c.loop-k.used _ _ ∙ c.loop-k.invariant.3)
+    let r = row (goal.at.loop-k-preserved c).In_ok-ok in
+    let h = marked_more a.p c.loop-k.k (omega arith) r free c.loop-k.invariant.0 in
+    (rw e h, length-set c.loop-k.used _ _ ∙ c.loop-k.invariant.1)
 
 pub returns : goal.returns
-returns c n =
+returns c =
     let a = c.args in
     let e : c.loop-k.k ≡ a.n = omega arith in
-    saw-all a.sheet.now _ a.n a.p c.loop-k.invariant.1 (rw e at c.loop-k.invariant.2.each)
+    let f = c.in_ok-end.ensures in
+    rw f.0 (saw-all a.sheet.now _ a.n a.p (omega (arith, f)) (rw e at c.loop-k.invariant.0.each))

@@ -1,26 +1,25 @@
--- Invariant: whether the number stands among all from start on is whether it stands among those from k on.
--- Assumes nothing.
-use Rattle.std.proofs.Common.{sym, ◌∙◌, arith}
-use Rattle.laws.specs.Tests.{among_none, among-here, among-on}
+-- Any of the numbers from start to i is the one at i: that is what `among` asks, number by number. Assumes nothing.
+use Rattle.std.proofs.Common.{Bool, true, false, List, ◌≡◌, ◌∙◌, refl, ℕ, zero, suc, ◌+◌, ◌-◌, ◌||◌, cond, ℤ, rules}
+use borrow.Author.Tests.{tests}
+use Rattle.std.specs.List.{list_any, range_with_len}
+use Rattle.std.proofs.lemmas.Iterator.{YieldsList-from_range}
+use Rattle.std.proofs.lemmas.Iterator.Search.{any_from_yields_List}
 use Rattle.rules.specs.Numbers.{at}
+use Rattle.rules.specs.Sheets.{same, among}
 use Rattle.sheetread.proofs.faults.is_used.Goals as goal
 
-pub returns-then-is_same_at : goal.returns-then-is_same_at
-returns-then-is_same_at c =
-    let l = c.loop-k in
-    let a = c.args in
-    let t = sym c.is_same_at.ensures ∙ c.if-is_same_at.true in
-    sym (l.invariant ∙ among-here a.sheet.now (at a.sheet.now a.i) l.k a.i (omega arith) t)
-
-pub loop-k-preserved : goal.loop-k-preserved
-loop-k-preserved c =
-    let l = c.loop-k in
-    let a = c.args in
-    let t = sym c.is_same_at.ensures ∙ c.if-is_same_at.false in
-    l.invariant ∙ among-on a.sheet.now (at a.sheet.now a.i) l.k a.i (omega arith) t
+any-among : (s : List ℤ) (z : ℤ) (i m : ℕ) → list_any (λ k. same (at s k) z) (range_with_len i m) ≡ among s z i m
+unfolding among
+any-among s z i zero = refl
+any-among s z i (suc m) = rw (any-among s z (i + 1) m) (go (same (at s i) z) (among s z (i + 1) m))
+  where
+    go : (a b : Bool) → a || b ≡ cond a true b
+    go true b = refl
+    go false b = refl
 
 pub returns : goal.returns
 returns c =
-    let l = c.loop-k in
-    let a = c.args in
-    sym (l.invariant ∙ among_none a.sheet.now (at a.sheet.now a.i) l.k a.i (omega arith))
+    any_from_yields_List (λ (k : ℕ). same (at c.args.sheet.now k) (at c.args.sheet.now c.args.i)) _ _ _ c.any.ensures.ran
+    (YieldsList-from_range c.args.start c.args.i (c.args.i - c.args.start) refl refl)
+    (λ x b q k. search (rules, tests))
+    ∙ any-among c.args.sheet.now (at c.args.sheet.now c.args.i) c.args.start (c.args.i - c.args.start)

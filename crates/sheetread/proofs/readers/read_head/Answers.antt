@@ -1,12 +1,13 @@
 -- The order, and if it has no fault the count. Assumes nothing.
-use Rattle.laws.specs.Readers.{stops, goes}
+use Rattle.laws.specs.Results.{passed, read-returned, read-goes}
 use Rattle.rules.specs.Sheets.{head}
 use Rattle.sheetread.proofs.readers.read_head.Goals as goal
 
-pub returns-then-r-ne0 : goal.returns-then-r-ne0
+pub returns-in_err-i : goal.returns-in_err-i
 unfolding head
-returns-then-r-ne0 c = stops _ c.read_one-r.ensures c.if-r-ne0.true
+returns-in_err-i c =
+    read-returned c.read_one.ensures _ (passed c.from_residual.ensures.1) c.in_err-i.was
 
 pub returns : goal.returns
 unfolding head
-returns c = goes _ c.read_one-r.ensures c.if-r-ne0.false c.read_one.ensures
+returns c = read-goes c.read_one.ensures _ c.in_ok-i.was c.read_one-2.ensures

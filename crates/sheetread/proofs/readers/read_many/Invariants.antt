@@ -3,8 +3,5 @@ use Rattle.std.proofs.Common.{◌≡◌, ◌-◌}
 use Rattle.rules.specs.Sheets.{times, one}
 use Rattle.sheetread.proofs.readers.read_many.Given as goal
 
-abbrev pub invariant-loop-k : goal.invariant-loop-k
-invariant-loop-k l = times l.m (one l.sheet l.what) l.start ≡ times (l.m - l.k) (one l.sheet l.what) l.i
-
-abbrev pub decreases-loop-k : goal.decreases-loop-k
-decreases-loop-k l = l.m - l.k
+abbrev pub invariant-loop : goal.invariant-loop
+invariant-loop l = times l.m (one l.sheet l.what) l.start ≡ times (l.m - l.counter) (one l.sheet l.what) l.i

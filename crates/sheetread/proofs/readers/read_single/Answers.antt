@@ -1,9 +1,10 @@
 -- The row, and if it has no fault the signs and entries. Assumes nothing.
-use Rattle.laws.specs.Readers.{stops, goes}
+use Rattle.laws.specs.Results.{passed, read-returned, read-goes}
 use Rattle.sheetread.proofs.readers.read_single.Goals as goal
 
-pub returns-then-r-ne0 : goal.returns-then-r-ne0
-returns-then-r-ne0 c = stops _ c.read_one-r.ensures c.if-r-ne0.true
+pub returns-in_err-signs : goal.returns-in_err-signs
+returns-in_err-signs c =
+    read-returned c.read_one.ensures _ (passed c.from_residual.ensures.1) c.in_err-signs.was
 
 pub returns : goal.returns
-returns c = goes _ c.read_one-r.ensures c.if-r-ne0.false c.read_weights.ensures
+returns c = read-goes c.read_one.ensures _ c.in_ok-signs.was c.read_weights.ensures

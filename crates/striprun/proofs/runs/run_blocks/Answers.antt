@@ -15,7 +15,7 @@ loop-k-init c = (omega arith, refl, refl, refl, none_done _ _ _ _ _)
 pub loop-k-preserved : goal.loop-k-preserved
 loop-k-preserved c =
     let l = c.loop-k in
-    let p = plan_of c.args.shape c.args.col.now c.args.row.now in
+    let p = plan_of c.args.sheets.now in
     let call = call_of c.args.run p in
     let whole = block-call c.args.run c.requires.0 p in
     let x = c.args.x.now in

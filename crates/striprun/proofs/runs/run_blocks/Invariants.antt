@@ -1,5 +1,5 @@
 -- After k blocks the strip is done up to there (`BlocksDone`): a turn's part of the output comes back as its block (`done-step`).
-use Rattle.std.proofs.Common.{◌≡◌, ◌-◌, ◌≤◌, length}
+use Rattle.std.proofs.Common.{◌≡◌, ◌≤◌, length}
 use Rattle.factor.specs.Tasks.{call_of}
 use Rattle.striprun.specs.BlockLoop.{BlocksDone}
 use Rattle.striprun.specs.Plans.{plan_of}
@@ -11,7 +11,4 @@ invariant-loop-k l =
     × (l.k-end ≡ length l.initial.bytes)
     × (length l.y ≡ length l.initial.y)
     × (length l.bytes ≡ length l.initial.bytes)
-    × BlocksDone (plan_of l.shape l.col l.row) (call_of l.run (plan_of l.shape l.col l.row)) l.x l.initial.y l.initial.bytes l.k l.y l.bytes
-
-abbrev pub decreases-loop-k : goal.decreases-loop-k
-decreases-loop-k l = l.k-end - l.k
+    × BlocksDone (plan_of l.sheets) (call_of l.run (plan_of l.sheets)) l.x l.initial.y l.initial.bytes l.k l.y l.bytes

@@ -1,9 +1,0 @@
--- The loop: k words were looked at; the room has place for all of them.
-use Rattle.std.proofs.Common.{◌-◌, ◌≤◌}
-use Rattle.trialparts.proofs.parts.is_between.Given as goal
-
-abbrev pub invariant-loop-k : goal.invariant-loop-k
-invariant-loop-k l = l.k ≤ l.n
-
-abbrev pub decreases-loop-k : goal.decreases-loop-k
-decreases-loop-k l = l.n - l.k
