@@ -1,6 +1,6 @@
-// A factor with weights, applied and undone: a loop for each kind, so that its kind is looked at once. Applied, every element of the
-// block y is made from the block x, of which y is a copy. Undone in place, a loop stops at the first number beyond the bound: later
-// sums could leave 64 bits.
+// A factor with weights, applied and undone: a loop for each kind, so that its kind is looked at once. Applied, every element of
+// the block y is made from the block x, of which y is a copy. Undone in place, a loop stops at the first number beyond the bound:
+// later sums could leave 64 bits.
 ghost use Rattle.std.specs.Prelude.{◌≢◌, ◌≡◌, ◌<◌, is_ok};
 ghost use Rattle.rules.specs.Numbers.{bound};
 ghost use Rattle.rules.specs.Stages.{fill};

@@ -16,8 +16,8 @@ use factor::run::{Run, Task, is_down, is_even};
 use factor::{is_move, layout_at};
 use rules::Block;
 
-// The block by value, and whether every number is in bound. The block stands first and in no Result: behind a tag its copies are
-// not aligned, and a stage of a permutation of 16 numbers took 39 ns in place of 28.
+// The block by value, and whether every number is in bound. With a Result of the block, and loops that took it by value, forward
+// runs of 5 to 16 numbers took 10 to 16 in a hundred longer than in this form.
 #[derive(Clone, Copy)]
 pub struct Passed {
     pub block: [i32; Block::LINE],
