@@ -1,6 +1,6 @@
 -- THE ANSWER TELLS THE RESULT: two results of a call with one answer are one result, so a contract that fixes the answer fixes the
 -- result. Assumes nothing.
-use Rattle.std.specs.Prelude.{Result, Ok, Err, cond, eqb, ◌≡◌, ℕ}
+use Rattle.std.specs.Prelude.{Result, Ok, Err, cond, eqb, List, ◌≡◌, ℕ, ℤ}
 use Rattle.std.proofs.Common.{sym, ap, ◌∙◌, refl}
 use Rattle.rules.specs.declared.Fault.{Fault}
 use Rattle.rules.specs.declared.Fault.TheVariants.{Ended, Order, Count, Kind, Place, Repeated, Sign, Entry, Leftover, Length}
@@ -10,6 +10,8 @@ use Rattle.rules.specs.declared.Side.TheVariants.{First, Second}
 use Rattle.rules.specs.declared.Refusal.{Refusal}
 use Rattle.rules.specs.declared.Answer.{Answer}
 use Rattle.rules.specs.Results.{fault_number, side_number, refused_for, answered, count_answered}
+use Rattle.rules.specs.Calls.{Reply, Gives}
+use Rattle.rules.specs.Strips.{StripReply, GivesStrip}
 use Rattle.laws.specs.Results.{some-fault}
 
 -- the fault of a number, and the side
@@ -72,3 +74,26 @@ one-count (Ok n) (Ok m) e = ap (λ (x : ℕ). Ok x) (ap (λ (a : Answer). a.plac
 one-count (Ok n) (Err q) e = absurd (some-fault q.fault (sym (ap (λ (a : Answer). a.number) e)))
 one-count (Err r) (Ok m) e = absurd (some-fault r.fault (ap (λ (a : Answer). a.number) e))
 one-count (Err r) (Err q) e = ap (λ (x : Refusal). Err x) (one-refusal r q e)
+
+-- ---- one result and one state of lent memory are left by a contract, refusals too: of every call but `rest`, which has no result
+-- `check` and `check_pair`: a is what the definition answers
+pub one-checked : {a : Answer} (r q : Result (Unit {0}) Refusal) → answered r ≡ a → answered q ≡ a → r ≡ q
+one-checked r q g h = one-result r q (g ∙ sym h)
+
+-- the runs and the allowances: p is what the definition gives
+pub one-given :
+    (r q : Result (Unit {0}) Refusal) {m n : List ℤ} (p : Reply ℤ) → Gives (answered r) m p → Gives (answered q) n p →
+    (r ≡ q) × (m ≡ n)
+one-given r q p g h = (one-result r q (g.0 ∙ sym h.0), g.1 ∙ sym h.1)
+
+-- the calls on recipes
+pub one-counted :
+    {A : Type 0} (r q : Result ℕ Refusal) {m n : List A} (p : Reply A) → Gives (count_answered r) m p →
+    Gives (count_answered q) n p → (r ≡ q) × (m ≡ n)
+one-counted r q p g h = (one-count r q (g.0 ∙ sym h.0), g.1 ∙ sym h.1)
+
+-- strips: the bytes too
+pub one-given-strip :
+    (r q : Result (Unit {0}) Refusal) {m n : List ℤ} {b c : List ℕ} (p : StripReply) → GivesStrip (answered r) m b p →
+    GivesStrip (answered q) n c p → (r ≡ q) × (m ≡ n) × (b ≡ c)
+one-given-strip r q p g h = (one-result r q (g.0 ∙ sym h.0), g.1 ∙ sym h.1, g.2 ∙ sym h.2)

@@ -38,7 +38,7 @@ module _ {n : ℕ} {g : ℕ → List ℤ} {p : ℕ → ℕ} {z : ℕ → ℤ} (f
     small = bounded-set y (p t) h.small b;
   }
 
-  filled-stops : (t : ℕ) → t < n → leb (nat_abs (z t)) bound ≡ false → inside bound n (g n) ≡ false
+  pub filled-stops : (t : ℕ) → t < n → leb (nat_abs (z t)) bound ≡ false → inside bound n (g n) ≡ false
   filled-stops t l h = beyond-there bound n (g n) (p t) (z t) (f.below t l) (f.kept t l) h
 
   -- the code has put z t into its place, or found it beyond the bound; v is that number as the code holds it

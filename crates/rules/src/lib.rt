@@ -73,6 +73,9 @@ impl Scale {
     pub const JOINT_HALF: i64 = Self::JOINT / 2;
 
     pub const JOINT_UP: i64 = Self::JOINT - 1;
+
+    // A shift by one bit halves.
+    pub const PAIR_BITS: i64 = 1;
 }
 
 // The four kinds of factor.

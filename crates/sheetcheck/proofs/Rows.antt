@@ -1,18 +1,20 @@
 -- Numbers in a row that were seen one by one. Assumes nothing.
-use mathlib.Core.Bool.{Bool, true, false, ◌&&◌}
+use mathlib.Core.Bool.{Bool, true, false, cond, ◌&&◌}
 use mathlib.Core.List.{List}
 use mathlib.Core.Path.{◌≡◌, refl, sym}
-use Prim.Native.Nat.{ℕ, ◌+◌, ◌≤◌, ◌<◌}
+use Prim.Native.Nat.{ℕ, ◌+◌, ◌-◌, ◌≤◌, ◌<◌}
 use native.Mathlib.Decide.{ℕ_discrete}
 use native.Mathlib.Omega.{arith}
-use lib.IntN.{ℤ}
+use lib.IntN.{ℤ, pos, negsuc, neg_ℤ}
 use lib.ListN.{length}
 use Rattle.std.specs.Prelude.{Some, Result, Ok, Err}
 use Rattle.std.specs.Result.{is_ok, result_ok}
 use Rattle.rules.specs.declared.Fault.{Fault}
 use Rattle.rules.specs.declared.Item.{Item}
+use Rattle.rules.specs.declared.Item.TheVariants.{Order, Count, KindNumber, Row, Place, Sign, Entry}
+use Rattle.rules.specs.Numbers.{most_order, most_count, most_kind, most_entry, at}
 use Rattle.rules.specs.Results.{faulted}
-use Rattle.rules.specs.Sheets.{times, fault_of, one}
+use Rattle.rules.specs.Sheets.{between, below, same, among, times, fault_of, one}
 use Rattle.laws.specs.Readers.{Seen, one-fine}
 use Rattle.laws.specs.Accepted.{stretch-of}
 use Rattle.sheetcheck.specs.Quick.{Passes}
@@ -27,6 +29,26 @@ saw-more {s} {what} p k h o j l = go (ℕ_discrete j k)
     go : Dec (j ≡ k) → Seen s what (p + j)
     go (yes e) = rw e o
     go (no e) = h j (omega arith)
+
+cond-most : (t : Bool) (a b : ℕ) → a ≤ 8 → b ≤ 8 → cond t a b ≤ 8
+cond-most true a b l m = l
+cond-most false a b l m = m
+
+-- a fault is a number of the table
+pub fault-most : (s : List ℤ) (what : Item) (i : ℕ) → fault_of s what i ≤ 8
+unfolding fault_of
+fault-most s Order i = cond-most (between (pos 1) (pos most_order) (at s i)) 0 2 (omega arith) (omega arith)
+fault-most s Count i = cond-most (between (pos 1) (pos most_count) (at s i)) 0 3 (omega arith) (omega arith)
+fault-most s KindNumber i = cond-most (between (pos 1) (pos most_kind) (at s i)) 0 4 (omega arith) (omega arith)
+fault-most s (Row n) i = cond-most (below n (at s i)) 0 5 (omega arith) (omega arith)
+fault-most s (Place n start) i =
+    let used = among s (at s i) start (i - start) in
+    cond-most (below n (at s i)) (cond used 6 0) 5 (cond-most used 6 0 (omega arith) (omega arith)) (omega arith)
+fault-most s Sign i =
+    let minus = same (at s i) (negsuc 0) in
+    cond-most (same (at s i) (pos 1)) 0 (cond minus 0 7) (omega arith) (cond-most minus 0 7 (omega arith) (omega arith))
+fault-most s Entry i =
+    cond-most (between (neg_ℤ (pos most_entry)) (pos most_entry) (at s i)) 0 8 (omega arith) (omega arith)
 
 -- a test that gave Ok found no fault
 ok-fine : {f : ℕ} (r : Result (Unit {0}) Fault) → faulted r ≡ f → is_ok r ≡ true → f ≡ 0

@@ -69,12 +69,12 @@ module _ (p : Plan) (x y : List ℤ) (b : List ℕ) where
 -- ---- a strip by the number of a rule: 16 comes first, then the strip is the one of that rule; a is what the check of the number
 -- answered
 module _ (task : Task) (k : ℕ) (p : Plan) (x y : List ℤ) (b : List ℕ) {a : Answer} (e : a ≡ rule_checked k) where
-  rule-stops : (a.number ≡ 0 → ⊥) → GivesStrip a y b (ruled k (strip_of task) p x y b)
+  pub rule-stops : (a.number ≡ 0 → ⊥) → GivesStrip a y b (ruled k (strip_of task) p x y b)
   rule-stops h =
       let refuses = answer-stops (rule_checked k) p.sheets (λ z. h (ap (λ (q : Answer). q.number) e ∙ z)) in
       strip-stops (under k p) x y b (call_by task (rule_of k) (under k p)) (sheets-first (under k p) x y b (e ∙ sym refuses) h) h
 
-  rule-goes : {c : Answer} {m : List ℤ} {bs : List ℕ} → a.number ≡ 0 → GivesStrip c m bs (strip_of task (rule_of k) p x y b) →
+  pub rule-goes : {c : Answer} {m : List ℤ} {bs : List ℕ} → a.number ≡ 0 → GivesStrip c m bs (strip_of task (rule_of k) p x y b) →
       GivesStrip c m bs (ruled k (strip_of task) p x y b)
   rule-goes h g = rw (under-fine k p (ap (λ (q : Answer). q.number) (sym e) ∙ h)) g
 

@@ -4,9 +4,9 @@ use crate::call::{CALLS, Call, NAMES};
 // The cases of a call: how many agree, how many differ, and the first of these.
 #[derive(Clone, Copy)]
 pub struct Count {
-    agree: u64,
-    differ: u64,
-    first: u64,
+    pub agree: u64,
+    pub differ: u64,
+    pub first: u64,
 }
 
 // The counts of all calls. First come those of the numbers that are no call's.
@@ -19,9 +19,9 @@ pub const NONE: Counts = [Count {
     first: 0,
 }; CALLS + 1];
 
-// One case more.
-pub fn note(counts: &mut Counts, call: Option<Call>, case: u64, agrees: bool) {
-    let slot = call.map_or(0, |c| c as usize);
+// One case more. A number that is no call's counts as 0.
+pub fn note(counts: &mut Counts, call: usize, case: u64, agrees: bool) {
+    let slot = Call::of(call).map_or(0, |c| c as usize);
     let Some(count) = counts.get_mut(slot) else {
         return;
     };

@@ -27,7 +27,7 @@ struct Layout {
 // What a case showed. Its number may be no call's.
 #[derive(Clone, Copy)]
 struct Verdict {
-    pub call: Option<Call>,
+    pub number: usize,
     pub agrees: bool,
 }
 
@@ -110,12 +110,11 @@ fn read_case(number: usize, rule: u32, c: Layout) -> Result<Verdict, Ended> {
     if read_words(&mut w[..c.end]) != c.end * 4 {
         return Err(Ended { whole: false });
     }
-    let call = Call::of(number);
-    let agrees = judge(call, rule, c, &w);
+    let agrees = judge(Call::of(number), rule, c, &w);
     if number == 0 {
         return Err(Ended { whole: agrees });
     }
-    Ok(Verdict { call, agrees })
+    Ok(Verdict { number, agrees })
 }
 
 // A head is the call, the rule, and the lengths of A, B, X and Y.
@@ -133,7 +132,7 @@ fn next_case() -> Result<Verdict, Ended> {
 pub fn run_all(counts: &mut Counts) -> End {
     for case in 0..MANY {
         match next_case() {
-            Ok(v) => note(counts, v.call, case, v.agrees),
+            Ok(v) => note(counts, v.number, case, v.agrees),
             Err(ended) => {
                 return End {
                     cases: case,
