@@ -50,23 +50,19 @@ fn rounded_sum(
     round_line(down, even, products_sum(&w, x, 4))
 }
 
-// The number z at place m of a block. If it is beyond the bound, the block is of no account: it is `left`.
-fn with_number(v: Four, m: usize, z: i64, left: [i32; 4]) -> Four
-    requires { (m < 4) × Bounded bound v.block × Bounded bound left }
+// The number z at place m of a block. If it is beyond the bound, the block is of no account, and 0 stands there: by its own test
+// alone, so that the next sum does not wait for those of the numbers before it.
+fn with_number(v: Four, m: usize, z: i64) -> Four
+    requires { (m < 4) × Bounded bound v.block }
     ensures { Turned result v (λ b. set b m z) }
 {
-    if !v.ok {
-        return v;
-    }
-    if !is_within(z, Block::SAMPLE) {
-        return Four {
-            ok: false,
-            block: left,
-        };
-    }
+    let fits = is_within(z, Block::SAMPLE);
     let mut y = v.block;
-    y[m] = z as i32;
-    Four { ok: true, block: y }
+    y[m] = if fits { z as i32 } else { 0 };
+    Four {
+        ok: v.ok && fits,
+        block: y,
+    }
 }
 
 // Element m applied, from the block x into v.
@@ -88,12 +84,11 @@ fn applied_at(
     ensures { Turned result v (turn (rule_by down even) sheet.now p false m a b c d x) }
 {
     let q = rounded_sum(down, even, sheet, p, m, a, b, c, d, &x);
-    with_number(v, m, applied(sheet[p + m], x[m], q), x)
+    with_number(v, m, applied(sheet[p + m], x[m], q))
 }
 
-// Element m undone: its own number from the block y, the others from v. A refused block is left as 0, so that no number waits
-// for its own test before it enters the next sum.
-#[tactic(auto, unfolding(crate::specs::Turns::element_by, factor::specs::PaddedBlocks::padded_block, rules::specs::Stages::inside))]
+// Element m undone: its own number from the block y, the others from v.
+#[tactic(auto, unfolding(crate::specs::Turns::element_by))]
 fn undone_at(
     down: bool,
     even: bool,
@@ -112,7 +107,7 @@ fn undone_at(
 {
     let x = v.block;
     let q = rounded_sum(down, even, sheet, p, m, a, b, c, d, &x);
-    with_number(v, m, undone(sheet[p + m], y[m], q), [0; 4])
+    with_number(v, m, undone(sheet[p + m], y[m], q))
 }
 
 // A turn: element m applied, or undone if BACK.

@@ -1,11 +1,8 @@
 -- The sign, the number and the rounded sum are small, and so is what is made of them.
-use Rattle.std.proofs.Common.{[], ◌≡◌, refl, ap, ◌∙◌, true, set, w32, w64, to_z, of_z}
-use Rattle.factor.specs.PaddedBlocks.{padded_block, padded-bounded}
+use Rattle.std.proofs.Common.{◌≡◌, ap, ◌∙◌, true, set, w32, w64, to_z, of_z}
 use Rattle.factor.specs.Rounding.{rule_by}
 use Rattle.four.specs.TurnLaws.{rounded-sum-small, turned_as}
 use Rattle.four.specs.Turns.{element_by}
-use Rattle.rules.specs.Numbers.{bound}
-use Rattle.rules.specs.Stages.{inside}
 use Rattle.whole.specs.Machine.{fits, reads, back, within--, sign-within, within-sign}
 use Rattle.four.proofs.elements.undone_at.Goals as goal
 use Rattle.four.proofs.elements.undone_at.Goals.{After-undone}
@@ -36,11 +33,6 @@ value c =
       reads w32 (sign-within h.0.sign) tt,
       reads w32 (h.1.small c.args.m) tt,
     )
-
-pub with_number-requires : goal.with_number-requires
-unfolding padded_block inside
-with_number-requires c =
-    let h = c.requires in (h.0.place, h.2, padded-bounded 4 bound [] refl)
 
 pub returns : goal.returns
 returns c =
